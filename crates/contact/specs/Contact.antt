@@ -1,0 +1,56 @@
+-- One contact: document 01's rule over its own history, and the run that is enough to follow it.
+--
+--    looks D              D, with 0 counting as 1
+--    opposite held s      the sample s is the opposite of held
+--    changes D held ss    THE RULE: does a contact that is held so change, its samples being ss?
+--    Seen                 a sample, with the KBDBOUNCE in force at its look
+--    samples h            the samples of a history
+--    heldAfter h          is the contact held after a history?
+--    runOf held ss        the run
+--    stepped              one look of a contact of which only the run is remembered
+--
+-- Samples and histories are newest first, and hold the samples since the restart that exist.
+use Prim.Native.Nat.{ℕ, _+_, max}
+use mathlib.Core.Bool.{Bool, true, false, not, _&&_, Bool·beq}
+use mathlib.Core.List.{List, [], _∷_}
+use lib.ListN.{length, take}
+use lib.Dec.{leb}
+use Rattle.words.specs.Words.{_if_, _else_, all}
+use Rattle.contact.specs.declared.Contact.{Contact}
+
+-- "Let D be KBDBOUNCE, with 0 counting as 1"
+unfoldable pub looks : ℕ → ℕ
+looks d = max d 1
+
+unfoldable pub opposite : Bool → Bool → Bool
+opposite held s = not (Bool·beq s held)
+
+-- "a key in the size changes exactly when its last D samples since the restart, this look included, exist
+-- and are all the opposite of what it was before this look"
+unfoldable pub changes : ℕ → Bool → List Bool → Bool
+changes d held ss = leb (looks d) (length ss) && all (opposite held) (take (looks d) ss)
+
+-- "D is the value in force at this look; samples taken under an older D still count"
+pub record Seen : Type 0 where
+  pub bounce : ℕ
+  pub closed : Bool
+
+unfoldable pub samples : List Seen → List Bool
+samples [] = []
+samples (x ∷ h) = x .closed ∷ samples h
+
+-- "After a restart every key is open"
+unfoldable pub heldAfter : List Seen → Bool
+heldAfter [] = false
+heldAfter (x ∷ h) = not (heldAfter h) if changes (x .bounce) (heldAfter h) (samples (x ∷ h)) else heldAfter h
+
+-- "its run: how many of its newest ones in a row are the opposite of how it is held"
+unfoldable pub runOf : Bool → List Bool → ℕ
+runOf held [] = 0
+runOf held (s ∷ ss) = runOf held ss + 1 if opposite held s else 0
+
+-- what is held, the run, and whether it changed, after one more sample
+unfoldable pub stepped : Bool → ℕ → Bool → ℕ → Contact
+stepped held run s d =
+    (record { held = not held; run = 0; changed = true } if leb (looks d) (run + 1) else record { held = held; run = run + 1; changed = false })
+    if opposite held s else record { held = held; run = 0; changed = false }

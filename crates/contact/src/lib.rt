@@ -1,0 +1,43 @@
+// One contact: how it is held, and its run of newest samples that are the opposite.
+ghost use mathlib.Core.Path.{_≡_};
+ghost use Rattle.contact.specs.Contact.{stepped};
+
+// What one look makes of a contact.
+pub struct Contact {
+    pub held: bool,
+    pub run: u8,
+    pub changed: bool,
+}
+
+// One more sample of a contact, under the KBDBOUNCE in force.
+pub fn step(held: bool, run: u8, closed: bool, bounce: u8) -> Contact
+    ensures { λ r. ⌜ r ≡ stepped held run closed bounce ⌝ }
+{
+    if closed == held {
+        return Contact {
+            held: held,
+            run: 0,
+            changed: false,
+        };
+    }
+    if bounce <= run {
+        return Contact {
+            held: closed,
+            run: 0,
+            changed: true,
+        };
+    }
+    let longer = run + 1;
+    if bounce <= longer {
+        return Contact {
+            held: closed,
+            run: 0,
+            changed: true,
+        };
+    }
+    Contact {
+        held: held,
+        run: longer,
+        changed: false,
+    }
+}

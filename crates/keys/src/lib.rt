@@ -1,0 +1,147 @@
+// Keys: rows and columns numbered apart, key numbers, codes, and the keypad size.
+ghost use mathlib.Core.Path.{_≡_};
+ghost use Rattle.keys.specs.Keys.{isKey, keyAt, rowOf, colOf, pressCode, releaseCode, code, isCode, keyOf, acceptable, inSize, keyIn};
+
+// A row, 0 to 7: the data sheet's KEYROW.
+pub struct Row(pub u8);
+
+// A column, 0 to 11, or 12 for the row's special function key: the data sheet's KEYCOL.
+pub struct Col(pub u8);
+
+// What is answered where there is no such key.
+pub const NO_KEY: usize = 104;
+
+pub const NO_CODE: u8 = 0x7F;
+
+// Is there such a key?
+pub fn is_key(row: Row, col: Col) -> bool
+    ensures { λ r. ⌜ r ≡ isKey (row .0) (col .0) ⌝ }
+{
+    let r = row.0;
+    let c = col.0;
+    if 7 < r {
+        return false;
+    }
+    c <= 12
+}
+
+// The number of a key, by row, then column; NO_KEY where there is none.
+pub fn key_at(row: Row, col: Col) -> usize
+    ensures { λ r. ⌜ r ≡ keyAt (row .0) (col .0) ⌝ }
+{
+    let r = row.0;
+    let c = col.0;
+    if !is_key(row, col) {
+        return NO_KEY;
+    }
+    13 * (r as usize) + (c as usize)
+}
+
+// The row of a key; 8 where there is no such key.
+pub fn row_of(key: usize) -> Row
+    ensures { λ r. ⌜ r .0 ≡ rowOf key ⌝ }
+{
+    if NO_KEY <= key {
+        return Row(8);
+    }
+    Row((key / 13) as u8)
+}
+
+// The column of a key; 13 where there is no such key.
+pub fn col_of(key: usize) -> Col
+    ensures { λ r. ⌜ r .0 ≡ colOf key ⌝ }
+{
+    if NO_KEY <= key {
+        return Col(13);
+    }
+    Col((key % 13) as u8)
+}
+
+// A key's press code; NO_CODE where there is no such key.
+pub fn press_code(row: Row, col: Col) -> u8
+    ensures { λ r. ⌜ r ≡ pressCode (row .0) (col .0) ⌝ }
+{
+    let r = row.0;
+    let c = col.0;
+    if !is_key(row, col) {
+        return NO_CODE;
+    }
+    16 * r + c
+}
+
+// A key's release code; NO_CODE where there is no such key.
+pub fn release_code(row: Row, col: Col) -> u8
+    ensures { λ r. ⌜ r ≡ releaseCode (row .0) (col .0) ⌝ }
+{
+    let press = press_code(row, col);
+    if press == NO_CODE {
+        return NO_CODE;
+    }
+    press + 128
+}
+
+// The code of a change of a key: it closed or opened. NO_CODE where there is no such key.
+pub fn change_code(key: usize, closed: bool) -> u8
+    ensures { λ r. ⌜ r ≡ code key closed ⌝ }
+{
+    let row = row_of(key);
+    let col = col_of(key);
+    if closed {
+        return press_code(row, col);
+    }
+    release_code(row, col)
+}
+
+// Is a byte the press or release code of a key?
+pub fn is_code(byte: u8) -> bool
+    ensures { λ r. ⌜ r ≡ isCode byte ⌝ }
+{
+    byte % 16 <= 12
+}
+
+// The key that a press or release code speaks of; NO_KEY where it is no code.
+pub fn key_of(byte: u8) -> usize
+    ensures { λ r. ⌜ r ≡ keyOf byte ⌝ }
+{
+    key_at(Row(byte % 128 / 16), Col(byte % 16))
+}
+
+// May KBDSIZE hold this byte?
+pub fn is_acceptable(size: u8) -> bool
+    ensures { λ r. ⌜ r ≡ acceptable size ⌝ }
+{
+    let rows = size / 16;
+    let cols = size % 16;
+    if rows < 2 {
+        return false;
+    }
+    if 8 < rows {
+        return false;
+    }
+    if cols < 2 {
+        return false;
+    }
+    cols <= 12
+}
+
+// Is a key in the size?
+pub fn is_in_size(size: u8, row: Row, col: Col) -> bool
+    ensures { λ r. ⌜ r ≡ inSize size (row .0) (col .0) ⌝ }
+{
+    let r = row.0;
+    let c = col.0;
+    if size / 16 <= r {
+        return false;
+    }
+    if c < size % 16 {
+        return true;
+    }
+    c == 12
+}
+
+// Is the key with this number in the size?
+pub fn is_key_in(size: u8, key: usize) -> bool
+    ensures { λ r. ⌜ r ≡ keyIn size key ⌝ }
+{
+    is_in_size(size, row_of(key), col_of(key))
+}

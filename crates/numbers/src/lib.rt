@@ -1,0 +1,31 @@
+// The numbers that a call can give. A number other than DONE declines the call.
+
+// Done.
+pub const DONE: u8 = 0;
+
+// Look: the list isn't eight samples.
+pub const NOT_EIGHT: u8 = 1;
+
+// Look: some sample has bit 13, 14 or 15 set.
+pub const HIGH_BITS: u8 = 2;
+
+// Access: no bytes.
+pub const NO_BYTES: u8 = 3;
+
+// Access: more than 32 bytes.
+pub const TOO_MANY: u8 = 4;
+
+// Access: some address of the run is unknown, or can't be read or written as asked.
+pub const NOT_ALLOWED: u8 = 5;
+
+// Write: a byte for KBDSIZE isn't acceptable.
+pub const BAD_SIZE: u8 = 6;
+
+// Held question: row above 7 or column above 12.
+pub const NO_KEY: u8 = 7;
+
+// All but reset: module state unsound.
+pub const UNSOUND: u8 = 8;
+
+// Look: a change falls on a key out of the size.
+pub const OUT_OF_SIZE: u8 = 9;

@@ -1,0 +1,117 @@
+// The registers: which stands at an address, what may be read and written, and the addresses of an access.
+ghost use mathlib.Core.Path.{_≡_};
+ghost use Rattle.registers.specs.Registers.{registerAt, canRead, canWrite, allowed};
+ghost use Rattle.registers.specs.Runs.{next, runAllowed};
+
+// The registers by the data sheet's names; KBDCODE holds which of the four it is.
+pub enum Register {
+    KBDBOUNCE,
+    KBDSIZE,
+    KBDRIS,
+    KBDMIS,
+    KBDIC,
+    KBDMSK,
+    KBDCODE(u8),
+    EVTCODE,
+    RSTINTCLR,
+    Unknown,
+}
+
+// The two ways of an access.
+pub enum Access {
+    Read,
+    Write,
+}
+
+// The register at an address.
+pub fn register_at(address: u16) -> Register
+    ensures { λ r. ⌜ r ≡ registerAt address ⌝ }
+{
+    match address {
+        0x02 => Register::KBDBOUNCE,
+        0x03 => Register::KBDSIZE,
+        0x06 => Register::KBDRIS,
+        0x07 => Register::KBDMIS,
+        0x08 => Register::KBDIC,
+        0x09 => Register::KBDMSK,
+        0x0B..=0x0E => Register::KBDCODE((address - 0x0B) as u8),
+        0x10 => Register::EVTCODE,
+        0x84 => Register::RSTINTCLR,
+        _ => Register::Unknown,
+    }
+}
+
+// May the register be read?
+pub fn can_read(register: Register) -> bool
+    ensures { λ r. ⌜ r ≡ canRead register ⌝ }
+{
+    match register {
+        Register::KBDBOUNCE => true,
+        Register::KBDSIZE => true,
+        Register::KBDRIS => true,
+        Register::KBDMIS => true,
+        Register::KBDIC => false,
+        Register::KBDMSK => true,
+        Register::KBDCODE(_) => true,
+        Register::EVTCODE => true,
+        Register::RSTINTCLR => false,
+        Register::Unknown => false,
+    }
+}
+
+// May it be written?
+pub fn can_write(register: Register) -> bool
+    ensures { λ r. ⌜ r ≡ canWrite register ⌝ }
+{
+    match register {
+        Register::KBDBOUNCE => true,
+        Register::KBDSIZE => true,
+        Register::KBDRIS => false,
+        Register::KBDMIS => false,
+        Register::KBDIC => true,
+        Register::KBDMSK => true,
+        Register::KBDCODE(_) => false,
+        Register::EVTCODE => false,
+        Register::RSTINTCLR => true,
+        Register::Unknown => false,
+    }
+}
+
+// May the register be accessed so?
+pub fn is_allowed(access: Access, register: Register) -> bool
+    ensures { λ r. ⌜ r ≡ allowed access register ⌝ }
+{
+    match access {
+        Access::Read => can_read(register),
+        Access::Write => can_write(register),
+    }
+}
+
+// The address of an access's next byte. 0x100 stands for no address, and none follows it.
+pub fn next_address(address: u16) -> u16
+    ensures { λ r. ⌜ r ≡ next address ⌝ }
+{
+    if address == 0x10 {
+        return address;
+    }
+    if 0x100 <= address {
+        return address;
+    }
+    address + 1
+}
+
+// May every address of a run be accessed so?
+pub fn is_run_allowed(access: Access, first: u16, count: usize) -> bool
+    ensures { λ r. ⌜ r ≡ runAllowed access first count ⌝ }
+{
+    let mut address = first;
+    let mut rest = count;
+    while 0 < rest {
+        if !is_allowed(access, register_at(address)) {
+            return false;
+        }
+        address = next_address(address);
+        rest = rest - 1;
+    }
+    true
+}

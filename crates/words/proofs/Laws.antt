@@ -1,0 +1,102 @@
+-- Laws of the words.
+--
+--    true-false                           true is not false
+--    and-left, and-right, and-both        a conjunction, taken apart and put together
+--    every-first, every-rest, every-cons  the same of `every`
+--    every-stops, every-goes              the first item decides, or the rest does
+--    all-first, all-rest, all-cons        the same of `all`
+--    all-stops, all-goes
+--    all-below, below-all                 `allBelow` as a statement about every number
+--    below-next, below-fails              one number more, and a number of which it is false
+-- Assumes nothing.
+use Prim.Native.Nat.{ℕ, zero, suc, _+_, _<_, _≤_}
+use native.Mathlib.Nat.{not-suc-le-zero}
+use native.Mathlib.Decide.{decLt}
+use native.Mathlib.Numerals.{add-one}
+use native.Mathlib.Omega.{arith}
+use mathlib.Core.Path.{_≡_, refl, sym, ap, _∙_}
+use mathlib.Core.Bool.{Bool, true, false, _&&_, true≢false}
+use mathlib.Core.List.{List, [], _∷_}
+use Rattle.words.specs.Words.{every, all, allBelow}
+
+pub true-false : {A : Type 0} → true ≡ false → A
+true-false e = absurd (true≢false e)
+
+pub and-left : (a b : Bool) → (a && b) ≡ true → a ≡ true
+and-left true b e = refl
+and-left false b e = e
+
+pub and-right : (a b : Bool) → (a && b) ≡ true → b ≡ true
+and-right true b e = e
+and-right false b e = true-false (sym e)
+
+pub and-both : (a b : Bool) → a ≡ true → b ≡ true → (a && b) ≡ true
+and-both a b e f = rw (e, f)
+
+module _ (b : Bool) (l : List Bool) where
+  pub every-first : every (b ∷ l) ≡ true → b ≡ true
+  unfolding every
+  every-first e = and-left b (every l) e
+
+  pub every-rest : every (b ∷ l) ≡ true → every l ≡ true
+  unfolding every
+  every-rest e = and-right b (every l) e
+
+  pub every-cons : b ≡ true → every l ≡ true → every (b ∷ l) ≡ true
+  unfolding every
+  every-cons e f = and-both b (every l) e f
+
+  pub every-stops : b ≡ false → every (b ∷ l) ≡ false
+  unfolding every
+  every-stops e = rw e
+
+  pub every-goes : b ≡ true → every (b ∷ l) ≡ every l
+  unfolding every
+  every-goes e = rw e
+
+module _ {A : Type 0} (f : A → Bool) (x : A) (l : List A) where
+  pub all-first : all f (x ∷ l) ≡ true → f x ≡ true
+  unfolding all
+  all-first e = and-left (f x) (all f l) e
+
+  pub all-rest : all f (x ∷ l) ≡ true → all f l ≡ true
+  unfolding all
+  all-rest e = and-right (f x) (all f l) e
+
+  pub all-cons : f x ≡ true → all f l ≡ true → all f (x ∷ l) ≡ true
+  unfolding all
+  all-cons e h = and-both (f x) (all f l) e h
+
+  pub all-stops : f x ≡ false → all f (x ∷ l) ≡ false
+  unfolding all
+  all-stops e = rw e
+
+  pub all-goes : f x ≡ true → all f (x ∷ l) ≡ all f l
+  unfolding all
+  all-goes e = rw e
+
+module _ (f : ℕ → Bool) where
+  pub below-next : (n : ℕ) → allBelow f n ≡ true → f n ≡ true → allBelow f (n + 1) ≡ true
+  unfolding allBelow
+  below-next n e h = rw (add-one n) (and-both (allBelow f n) (f n) e h)
+
+  pub all-below : (n : ℕ) → allBelow f n ≡ true → (k : ℕ) → k < n → f k ≡ true
+  unfolding allBelow
+  all-below zero e k h = absurd (not-suc-le-zero h)
+  all-below (suc n) e k h = go (decLt k n) (all-below n (and-left (allBelow f n) (f n) e) k)
+    where
+      go : Dec (k < n) → (k < n → f k ≡ true) → f k ≡ true
+      go (yes p) rest = rest p
+      go (no p) rest = let last : k ≡ n = omega arith in ap f last ∙ and-right (allBelow f n) (f n) e
+
+  pub below-all : (n : ℕ) → ((k : ℕ) → k < n → f k ≡ true) → allBelow f n ≡ true
+  unfolding allBelow
+  below-all zero h = refl
+  below-all (suc n) h = and-both (allBelow f n) (f n) (below-all n (λ k l. h k (omega arith))) (h n (omega arith))
+
+  pub below-fails : (n k : ℕ) → k < n → f k ≡ false → allBelow f n ≡ false
+  below-fails n k l e = go (allBelow f n) refl
+    where
+      go : (b : Bool) → allBelow f n ≡ b → allBelow f n ≡ false
+      go true p = true-false (sym (all-below n p k l) ∙ e)
+      go false p = p

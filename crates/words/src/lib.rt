@@ -1,0 +1,1 @@
+// Words for definitions: specs/Words.antt. There is no code here.
