@@ -4,19 +4,24 @@
 --    and-left, and-right, and-both        a conjunction, taken apart and put together
 --    every-first, every-rest, every-cons  the same of `every`
 --    every-stops, every-goes              the first item decides, or the rest does
+--    every-none, every-one, every-later   of no item; of one; and it fails where the rest does
 --    all-first, all-rest, all-cons        the same of `all`
 --    all-stops, all-goes
 --    all-below, below-all                 `allBelow` as a statement about every number
 --    below-next, below-fails              one number more, and a number of which it is false
+--    all-end, all-stop-at, all-go-at      a list walked from the front: its end, an item that decides, one that is passed
+--    front-end, front-stops, front-goes   the same of the list's first n items
 -- Assumes nothing.
-use Prim.Native.Nat.{ℕ, zero, suc, _+_, _<_, _≤_}
+use Prim.Native.Nat.{ℕ, zero, suc, _+_, _<_, _≤_, min}
 use native.Mathlib.Nat.{not-suc-le-zero}
 use native.Mathlib.Decide.{decLt}
 use native.Mathlib.Numerals.{add-one}
 use native.Mathlib.Omega.{arith}
 use mathlib.Core.Path.{_≡_, refl, sym, ap, _∙_}
-use mathlib.Core.Bool.{Bool, true, false, _&&_, true≢false}
+use mathlib.Core.Bool.{Bool, true, false, _&&_, true≢false, and-true, and-false}
 use mathlib.Core.List.{List, [], _∷_}
+use lib.ListN.{length, getD, take, drop, length-take, drop-of-length-le}
+use lib.Seq.{drop-cons, getD-take}
 use Rattle.words.specs.Words.{every, all, allBelow}
 
 pub true-false : {A : Type 0} → true ≡ false → A
@@ -53,6 +58,18 @@ module _ (b : Bool) (l : List Bool) where
   pub every-goes : b ≡ true → every (b ∷ l) ≡ every l
   unfolding every
   every-goes e = rw e
+
+pub every-none : every [] ≡ true
+unfolding every
+every-none = refl
+
+pub every-one : (b : Bool) → every (b ∷ []) ≡ b
+unfolding every
+every-one b = and-true b
+
+pub every-later : (b : Bool) (l : List Bool) → every l ≡ false → every (b ∷ l) ≡ false
+unfolding every
+every-later b l e = rw e (and-false b)
 
 module _ {A : Type 0} (f : A → Bool) (x : A) (l : List A) where
   pub all-first : all f (x ∷ l) ≡ true → f x ≡ true
@@ -100,3 +117,28 @@ module _ (f : ℕ → Bool) where
       go : (b : Bool) → allBelow f n ≡ b → allBelow f n ≡ false
       go true p = true-false (sym (all-below n p k l) ∙ e)
       go false p = p
+
+-- a list that is walked from the front: what is left of it at place i
+module _ {A : Type 0} (f : A → Bool) (l : List A) (i : ℕ) where
+  pub all-end : length l ≤ i → all f (drop i l) ≡ true
+  unfolding all
+  all-end h = rw (drop-of-length-le l h)
+
+  pub all-stop-at : (d : A) → i < length l → f (getD l i d) ≡ false → all f (drop i l) ≡ false
+  all-stop-at d h e = rw (drop-cons l i d h) (all-stops f (getD l i d) (drop (suc i) l) e)
+
+  pub all-go-at : (d : A) → i < length l → f (getD l i d) ≡ true → all f (drop i l) ≡ all f (drop (i + 1) l)
+  all-go-at d h e = rw (drop-cons l i d h, add-one i) (all-goes f (getD l i d) (drop (suc i) l) e)
+
+module _ {A : Type 0} (f : A → Bool) (l : List A) (n i : ℕ) where
+  front-long : i < n → i < length l → i < length (take n l)
+  front-long h k = rw (length-take n l) (omega arith)
+
+  pub front-stops : (d : A) → i < n → i < length l → f (getD l i d) ≡ false → all f (drop i (take n l)) ≡ false
+  front-stops d h k e = all-stop-at f (take n l) i d (front-long h k) (ap f (getD-take n l i d h) ∙ e)
+
+  pub front-goes : (d : A) → i < n → i < length l → f (getD l i d) ≡ true → all f (drop i (take n l)) ≡ all f (drop (i + 1) (take n l))
+  front-goes d h k e = all-go-at f (take n l) i d (front-long h k) (ap f (getD-take n l i d h) ∙ e)
+
+  pub front-end : min n (length l) ≤ i → all f (drop i (take n l)) ≡ true
+  front-end h = all-end f (take n l) i (rw (length-take n l) h)

@@ -1,0 +1,78 @@
+-- The six calls: number, next state, and answer or buffer, for all arguments.
+--
+--    lookLines, heldLines           the lines of a look and of the held question
+--    lookNumber, writeNumber, ..    the number that the call gives
+--    outcome m x n, answer m a n    what a call hands back, by its number
+--    resetCall, lookCall, writeCall, readCall    the call: number and next state
+--    readBuffer m a out             the caller's buffer after a read
+--    heldCall, lineCall             the questions: number, state and answer
+use Prim.Native.Nat.{ℕ}
+use mathlib.Core.Bool.{Bool, false, not}
+use mathlib.Core.List.{List, [], _∷_, _++_}
+use lib.ListN.{length, getD}
+use lib.Dec.{eqb}
+use Rattle.words.specs.Words.{_if_, _else_}
+use Rattle.numbers.specs.Numbers.{Line, _gives_, numberOf, done, noKey, unsound, outOfSize}
+use Rattle.keys.specs.Keys.{isKey, keyAt}
+use Rattle.judge.specs.Lines.{sampleLines, readLines, writeLines}
+use Rattle.state.specs.declared.Module.{Module}
+use Rattle.state.specs.Module.{fresh}
+use Rattle.flags.specs.Flags.{line}
+use Rattle.sound.specs.Sound.{sound}
+use Rattle.scan.specs.Scan.{strays, looked}
+use Rattle.access.specs.Accesses.{wrote, readAll, bytesRead}
+use Rattle.calls.specs.declared.Done.{Done}
+use Rattle.calls.specs.declared.Answered.{Answered}
+
+-- "Order: 8; then 1, 2, 9 for a look; 3, 4, 5, 6 for an access; 7 for the held question."
+unfoldable pub lookLines : Module → List ℕ → List Line
+lookLines m s = not (sound m) gives unsound ∷ sampleLines s ++ (strays m s gives outOfSize ∷ [])
+
+unfoldable pub heldLines : Module → ℕ → ℕ → List Line
+heldLines m row col = not (sound m) gives unsound ∷ not (isKey row col) gives noKey ∷ []
+
+unfoldable pub lookNumber : Module → List ℕ → ℕ
+lookNumber m s = numberOf (lookLines m s)
+
+unfoldable pub writeNumber : Module → ℕ → List ℕ → ℕ
+writeNumber m a bs = numberOf (not (sound m) gives unsound ∷ writeLines a bs)
+
+unfoldable pub readNumber : Module → ℕ → ℕ → ℕ
+readNumber m a n = numberOf (not (sound m) gives unsound ∷ readLines a n)
+
+unfoldable pub heldNumber : Module → ℕ → ℕ → ℕ
+heldNumber m row col = numberOf (heldLines m row col)
+
+unfoldable pub lineNumber : Module → ℕ
+lineNumber m = numberOf (not (sound m) gives unsound ∷ [])
+
+-- "A declined call returns its number, the state as given": the number n, and the state x where it is 0, else m
+unfoldable pub outcome : Module → Module → ℕ → Done
+outcome m x n = record { after = x if eqb n done else m; number = n }
+
+-- "for a question the answer no"
+unfoldable pub answer : Module → Bool → ℕ → Answered
+answer m a n = record { after = m; number = n; yes = a if eqb n done else false }
+
+unfoldable pub resetCall : Done
+resetCall = record { after = fresh; number = done }
+
+unfoldable pub lookCall : Module → List ℕ → Done
+lookCall m s = outcome m (looked m s) (lookNumber m s)
+
+unfoldable pub writeCall : Module → ℕ → List ℕ → Done
+writeCall m a bs = outcome m (wrote m a bs) (writeNumber m a bs)
+
+unfoldable pub readCall : Module → ℕ → ℕ → Done
+readCall m a n = outcome m (readAll m a n) (readNumber m a n)
+
+-- "A read fills the whole buffer lent"; a declined one "leaves the buffer's bytes as they were"
+unfoldable pub readBuffer : Module → ℕ → List ℕ → List ℕ
+readBuffer m a out = bytesRead m a (length out) if eqb (readNumber m a (length out)) done else out
+
+-- "A key out of the size is simply not held."
+unfoldable pub heldCall : Module → ℕ → ℕ → Answered
+heldCall m row col = answer m (getD (m .held) (keyAt row col) false) (heldNumber m row col)
+
+unfoldable pub lineCall : Module → Answered
+lineCall m = answer m (line m) (lineNumber m)

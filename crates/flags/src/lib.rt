@@ -1,0 +1,66 @@
+// The flags as KBDRIS and KBDMIS show them, and the interrupt line.
+use state::Module;
+ghost use mathlib.Core.Path.{_≡_};
+ghost use Prim.Native.Nat.{_≤_, _+_};
+ghost use Rattle.words.specs.Words.{without};
+ghost use Rattle.flags.specs.Flags as is;
+
+// A flag's weight where it is set, else 0.
+fn weigh(flag: bool, weight: u8) -> u8
+    ensures { λ r. ⌜ (r ≡ is.weigh flag weight) × (r ≤ weight) ⌝ }
+{
+    if flag {
+        return weight;
+    }
+    0
+}
+
+// Four flags as the bits 3 to 0 of a byte.
+fn byte(relint: bool, revtint: bool, rklint: bool, rsint: bool) -> u8
+    ensures { λ r. ⌜ r ≡ is.weigh relint 8 + is.weigh revtint 4 + is.weigh rklint 2 + is.weigh rsint 1 ⌝ }
+{
+    weigh(relint, 8) + weigh(revtint, 4) + weigh(rklint, 2) + weigh(rsint, 1)
+}
+
+// A flag, cleared where a bit of a byte is 1.
+pub fn cleared(flag: bool, bit: u8, byte: u8) -> bool
+    requires { ⌜ bit ≤ 7 ⌝ }
+    ensures { λ r. ⌜ r ≡ without bit flag byte ⌝ }
+{
+    if (byte >> bit) % 2 == 1 {
+        return false;
+    }
+    flag
+}
+
+// What KBDRIS reads.
+pub fn ris(m: Module) -> u8
+    ensures { λ r. ⌜ r ≡ is.ris m ⌝ }
+{
+    let count = m.count;
+    byte(m.relint, 0 < count, m.rklint, m.rsint)
+}
+
+// What KBDMIS reads.
+pub fn mis(m: Module) -> u8
+    ensures { λ r. ⌜ r ≡ is.mis m ⌝ }
+{
+    let count = m.count;
+    let mask = m.mask;
+    let relint = cleared(m.relint, 3, mask);
+    let revtint = cleared(0 < count, 2, mask);
+    let rklint = cleared(m.rklint, 1, mask);
+    let rsint = cleared(m.rsint, 0, mask);
+    byte(relint, revtint, rklint, rsint)
+}
+
+// Is the interrupt line asserted?
+pub fn line(m: Module) -> bool
+    ensures { λ r. ⌜ r ≡ is.line m ⌝ }
+{
+    let porirq = m.porirq;
+    if porirq {
+        return true;
+    }
+    mis(m) != 0
+}

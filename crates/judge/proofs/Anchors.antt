@@ -1,0 +1,19 @@
+-- The high bits of a sample against document 01, written out and computed: "bits 13 to 15 must be 0".
+-- Assumes nothing.
+use Prim.Native.Nat.{ℕ}
+use mathlib.Core.Path.{_≡_, refl}
+use mathlib.Core.Bool.{not, true, _||_, _&&_}
+use mathlib.Core.List.{List, [], _∷_}
+use Rattle.words.specs.Words.{all, bit}
+use Rattle.judge.specs.Lines.{high}
+
+-- samples of closed columns and special function keys, and samples with one or more of the three bits
+narrow : List ℕ
+narrow = 0x0000 ∷ 0x0001 ∷ 0x0800 ∷ 0x0FFF ∷ 0x1000 ∷ 0x1001 ∷ 0x1FFF ∷ []
+
+wide : List ℕ
+wide = 0x2000 ∷ 0x2001 ∷ 0x3FFF ∷ 0x4000 ∷ 0x5000 ∷ 0x6000 ∷ 0x7FFF ∷ 0x8000 ∷ 0x9FFF ∷ 0xA000 ∷ 0xC000 ∷ 0xE000 ∷ 0xFFFF ∷ []
+
+high-right : (all (λ x. not (high x)) narrow && all high wide) ≡ true
+unfolding all narrow wide high bit
+high-right = refl

@@ -1,0 +1,37 @@
+-- `judge::of_access` meets its contract: each return stops at its line and has passed those before it.
+-- Assumes nothing.
+use native.Mathlib.Omega.{arith}
+use mathlib.Core.Path.{sym, _∙_, ap}
+use mathlib.Core.Bool.{not}
+use borrow.Author.Tests.{eq-eqb, ne-eqb, lt-ltb, le-ltb}
+use Rattle.numbers.proofs.Laws.{stops, goes, ends}
+use Rattle.judge.specs.Lines.{accessLines}
+use borrow.Author.Needs.{needs}
+use Rattle.judge.proofs.of_access.Statement.{statement}
+use Rattle.judge.proofs.of_access.Tie as tie
+
+returns : tie.Need-returns
+unfolding accessLines
+returns c = let n = c .before .args .count in sym (stops _ 3 _ (eq-eqb n 0 (omega arith)))
+
+returns-2 : tie.Need-returns-2
+unfolding accessLines
+returns-2 c = let n = c .before .before .args .count in sym (goes _ 3 _ (ne-eqb n 0 (omega arith)) ∙ stops _ 4 _ (lt-ltb _ _ (c .if2 .taken)))
+
+is-run-allowed-requires : tie.Need-is-run-allowed-requires
+is-run-allowed-requires c κs = search needs
+
+returns-3 : tie.Need-returns-3
+unfolding accessLines
+returns-3 c =
+    let n = c .before .before .before .before .args .count in
+    sym (goes _ 3 _ (ne-eqb n 0 (omega arith)) ∙ goes _ 4 _ (le-ltb _ _ (c .before .before .if2 .left)) ∙ stops _ 5 _ (ap not (sym (c .before .is-run-allowed .ensures)) ∙ c .if3 .taken))
+
+returns-4 : tie.Need-returns-4
+unfolding accessLines
+returns-4 c =
+    let n = c .before .before .before .before .args .count in
+    sym (goes _ 3 _ (ne-eqb n 0 (omega arith)) ∙ goes _ 4 _ (le-ltb _ _ (c .before .before .if2 .left)) ∙ goes _ 5 _ (ap not (sym (c .before .is-run-allowed .ensures)) ∙ c .if3 .left) ∙ ends)
+
+pub of-access-spec : {M : Type 1} → statement M
+of-access-spec = tie.close (tie.spec returns returns-2 is-run-allowed-requires returns-3 returns-4)

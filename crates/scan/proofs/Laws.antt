@@ -1,0 +1,104 @@
+-- Laws of a look.
+--
+--    sample-in, sample-out      a key's sample, in the size and out of it
+--    putAll-none                with no code to put the queue stays as it is
+--    below-more                 one key more
+--    below-queue, below-some    what one key more does to the queue, and to whether there is a change
+--    looked-noticed             the state after a look: keys and queue, and the flags where there is a change
+--    fits m s k                 key k is in the size, or doesn't change
+--    stray-found, stray-none    a change falls on a key out of the size, and none does
+--    no-strays                  none does where the keys out of the size are open and have no run
+-- Assumes nothing.
+use Prim.Native.Nat.{ℕ, _+_, _<_}
+use native.Mathlib.Numerals.{add-one}
+use mathlib.Core.Path.{_≡_, refl, sym, ap, _∙_}
+use mathlib.Core.Bool.{Bool, true, false, not, _||_, or-true, or-false}
+use mathlib.Core.List.{List, [], _∷_, _++_, append-nil}
+use lib.ListN.{getD}
+use Rattle.words.specs.Words.{_if_, _else_, allBelow, bit, some}
+use Rattle.words.proofs.Laws.{true-false, below-all, below-fails}
+use Rattle.keys.specs.Keys.{rowOf, colOf, code, keyIn, sample}
+use Rattle.contact.specs.Contact.{opposite, stepped}
+use Rattle.state.specs.declared.Module.{Module}
+use Rattle.state.specs.Module.{Queue, queueOf, withQueue}
+use Rattle.state.specs.Queue.{put, putAll}
+use Rattle.state.proofs.Laws.{putAll-snoc}
+use Rattle.scan.specs.Scan.{contactAt, changesBelow, changes, strays, contacts, noticed, looked}
+
+module _ (s : List ℕ) (size k : ℕ) where
+  pub sample-in : keyIn size k ≡ true → sample s size k ≡ bit (colOf k) (getD s (rowOf k) 0)
+  unfolding sample
+  sample-in e = rw e
+
+  pub sample-out : keyIn size k ≡ false → sample s size k ≡ false
+  unfolding sample
+  sample-out e = rw e
+
+-- of one code more, or none
+putAll-if : (q : Queue) (cs : List ℕ) (c : ℕ) (b : Bool) → putAll q (cs ++ ((c ∷ []) if b else [])) ≡ (put (putAll q cs) c if b else putAll q cs)
+putAll-if q cs c true = putAll-snoc q cs c
+putAll-if q cs c false = ap (putAll q) (append-nil cs)
+
+some-snoc : (cs : List ℕ) (c : ℕ) → some (cs ++ (c ∷ [])) ≡ true
+unfolding some
+some-snoc [] c = refl
+some-snoc (d ∷ cs) c = refl
+
+some-if : (cs : List ℕ) (c : ℕ) (b : Bool) → some (cs ++ ((c ∷ []) if b else [])) ≡ (some cs || b)
+some-if cs c true = some-snoc cs c ∙ sym (or-true (some cs))
+some-if cs c false = ap some (append-nil cs) ∙ sym (or-false (some cs))
+
+pub putAll-none : (q : Queue) (cs : List ℕ) → some cs ≡ false → putAll q cs ≡ q
+unfolding putAll some
+putAll-none q [] e = refl
+putAll-none q (c ∷ cs) e = true-false e
+
+module _ (m : Module) (s : List ℕ) where
+  module _ (k : ℕ) where
+    pub below-more : changesBelow m s (k + 1) ≡ changesBelow m s k ++ ((code k (sample s (m .size) k) ∷ []) if contactAt m s k .changed else [])
+    unfolding changesBelow
+    below-more = rw (add-one k)
+
+    pub below-queue : (q : Queue)
+        → putAll q (changesBelow m s (k + 1)) ≡ (put (putAll q (changesBelow m s k)) (code k (sample s (m .size) k)) if contactAt m s k .changed else putAll q (changesBelow m s k))
+    below-queue q = ap (putAll q) below-more ∙ putAll-if q (changesBelow m s k) (code k (sample s (m .size) k)) (contactAt m s k .changed)
+
+    pub below-some : some (changesBelow m s (k + 1)) ≡ (some (changesBelow m s k) || contactAt m s k .changed)
+    below-some = ap some below-more ∙ some-if (changesBelow m s k) (code k (sample s (m .size) k)) (contactAt m s k .changed)
+
+  -- with no change the queue stays as it is, so that keys and queue are the same either way
+  pub looked-noticed : (b : Bool) → some (changes m s) ≡ b
+      → looked m s ≡ (noticed (withQueue (contacts m s) (putAll (queueOf m) (changes m s))) if b else withQueue (contacts m s) (putAll (queueOf m) (changes m s)))
+  unfolding looked contacts
+  looked-noticed true e = rw e
+  looked-noticed false e = rw e (ap (withQueue (contacts m s)) (sym (putAll-none (queueOf m) (changes m s) e)))
+
+module _ (m : Module) (s : List ℕ) where
+  -- key k is in the size, or doesn't change
+  unfoldable pub fits : ℕ → Bool
+  fits k = keyIn (m .size) k || not (contactAt m s k .changed)
+
+  fits-in : (k : ℕ) → keyIn (m .size) k ≡ true → fits k ≡ true
+  unfolding fits
+  fits-in k e = rw e
+
+  -- an open contact with no run stays so while its sample is open
+  fits-still : (k : ℕ) → keyIn (m .size) k ≡ false → (getD (m .held) k false ≡ false) × (getD (m .run) k 0 ≡ 0) → fits k ≡ true
+  unfolding fits contactAt stepped opposite
+  fits-still k e still = rw (e, still .0, still .1, sample-out s (m .size) k e)
+
+  pub stray-found : (k : ℕ) → k < 104 → fits k ≡ false → strays m s ≡ true
+  unfolding strays fits
+  stray-found k h e = rw (below-fails fits 104 k h e)
+
+  pub stray-none : allBelow fits 104 ≡ true → strays m s ≡ false
+  unfolding strays fits
+  stray-none e = rw e
+
+-- out of the size samples count as open, so a sound module has no change there
+pub no-strays : (m : Module) → ((k : ℕ) → k < 104 → keyIn (m .size) k ≡ false → (getD (m .held) k false ≡ false) × (getD (m .run) k 0 ≡ 0)) → (s : List ℕ) → strays m s ≡ false
+no-strays m still s = stray-none m s (below-all (fits m s) 104 (λ k h. go k h (keyIn (m .size) k) refl))
+  where
+    go : (k : ℕ) → k < 104 → (b : Bool) → keyIn (m .size) k ≡ b → fits m s k ≡ true
+    go k h true e = fits-in m s k e
+    go k h false e = fits-still m s k e (still k h e)

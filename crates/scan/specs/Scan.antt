@@ -1,0 +1,47 @@
+-- What one look does to a module.
+--
+--    contactAt m s k     what the look with samples s makes of key k's contact
+--    changesBelow m s n  the codes of the changes of the keys below n, by row, then by column
+--    changes m s         the codes of all the look's changes
+--    strays m s          a change falls on a key out of the size
+--    contacts m s        the state with every key's contact as the look makes it
+--    noticed m           what a look with at least one change does to the flags
+--    looked m s          the state after the look
+use Prim.Native.Nat.{ℕ, zero, suc}
+use mathlib.Core.Bool.{Bool, true, false, not, _||_}
+use mathlib.Core.List.{List, [], _∷_, _++_}
+use lib.ListN.{getD}
+use Rattle.words.specs.Words.{_if_, _else_, allBelow, some, table}
+use Rattle.keys.specs.Keys.{code, keyIn, sample}
+use Rattle.contact.specs.declared.Contact.{Contact}
+use Rattle.contact.specs.Contact.{stepped}
+use Rattle.state.specs.declared.Module.{Module}
+use Rattle.state.specs.Module.{forgotten, queueOf, withKeys, withQueue, withRsint, withRklint, withSeen}
+use Rattle.state.specs.Queue.{putAll}
+
+unfoldable pub contactAt : Module → List ℕ → ℕ → Contact
+contactAt m s k = stepped (getD (m .held) k false) (getD (m .run) k 0) (sample s (m .size) k) (m .bounce)
+
+-- "The changes of one look are taken by row, then by column."
+unfoldable pub changesBelow : Module → List ℕ → ℕ → List ℕ
+changesBelow m s zero = []
+changesBelow m s (suc k) = changesBelow m s k ++ ((code k (sample s (m .size) k) ∷ []) if contactAt m s k .changed else [])
+
+unfoldable pub changes : Module → List ℕ → List ℕ
+changes m s = changesBelow m s 104
+
+-- "a change falls on a key out of the size"
+unfoldable pub strays : Module → List ℕ → Bool
+strays m s = not (allBelow (λ k. keyIn (m .size) k || not (contactAt m s k .changed)) 104)
+
+-- "The key counts as changed either way." [its change queued or dropped]
+unfoldable pub contacts : Module → List ℕ → Module
+contacts m s = withKeys m (table (λ k. contactAt m s k .held) 104) (table (λ k. contactAt m s k .run) 104)
+
+-- "if RSINT is already set, set RKLINT; set RSINT; forget which picture registers were read"
+unfoldable pub noticed : Module → Module
+noticed m = withSeen (withRsint (withRklint m (m .rklint || m .rsint)) true) forgotten
+
+-- "A look with at least one change does this"
+unfoldable pub looked : Module → List ℕ → Module
+looked m s = noticed (withQueue (contacts m s) (putAll (queueOf m) (changes m s))) if some (changes m s) else contacts m s

@@ -1,0 +1,140 @@
+-- Facts of the sheet, for every past.
+--
+--    code-is           the code of a key's change is a code
+--    changes-all       what is true of the code of every key's change is true of a look's changes
+--    waiting-most      "at most 15 codes wait"
+--    waiting-codes     every code that waits is one; code-real: so it is not 0x7F
+--    progress          a byte of EVTCODE is 0x7F only when nothing waits
+--    never-all         "the four picture registers aren't all marked read"
+--    mask-low          "KBDMSK is at most 0x0F"
+--    after-reset       after reset every register reads as the table says
+--    nth-none, nth-first, nth-next    the picture's registers, one held key after the other
+-- Assumes nothing.
+use Prim.Native.Nat.{ℕ, zero, suc, _+_, _%_, _≤_, _<_}
+use native.Mathlib.Numerals.{add-one}
+use native.Mathlib.Nat.{le-refl}
+use native.Mathlib.Omega.{arith}
+use mathlib.Core.Path.{_≡_, refl, sym}
+use mathlib.Core.Bool.{Bool, true, false, cond}
+use mathlib.Core.List.{List, [], _∷_, _++_}
+use borrow.Author.Tests.{lt-leb, lt-ltb}
+use lib.Dec.{ltb, leb·zero, leb·suc-suc}
+use lib.ListN.{length, drop, length-drop}
+use Rattle.words.specs.Words.{all, among, some, bit, without}
+use Rattle.words.proofs.Laws.{true-false, all-first}
+use Rattle.keys.specs.Keys.{isKey, keyAt, code, isCode, keyOf, sample}
+use Rattle.keys.proofs.Laws.{code-key}
+use Rattle.contact.specs.Contact.{heldAfter}
+use Rattle.registers.specs.declared.Register.{Register}
+use Rattle.registers.specs.declared.Register.the-variants.{KBDBOUNCE, KBDSIZE, KBDRIS, KBDMIS, KBDIC, KBDMSK, KBDCODE, EVTCODE, RSTINTCLR, Unknown}
+use Rattle.registers.specs.Registers.{_is_, pictured, afterReset}
+use Rattle.sheet.specs.Sheet.{Past, looked, wrote, got, bounce, size, mask, changed, change, changesBelow, changes, waiting, oldest, relint, allRead, marks, rsint, rklint, flags, revtint, ris, mis, history, held, heldBelow, nth, picture, byteOf}
+use Rattle.sheet.proofs.Lists.{by-test, all-none, all-one, all-append, all-take, all-drop, take-most}
+
+pub code-is : (k : ℕ) (closed : Bool) → k < 104 → isCode (code k closed) ≡ true
+unfolding isCode keyOf keyAt
+code-is k closed h =
+    let c = code k closed in
+    by-test (λ t. t ≡ true) (isCode c) (λ e. refl) (λ e. let none : 104 ≡ k = rw e at (code-key k closed h) in absurd (omega arith))
+
+-- ---- the queue
+module _ (s : List ℕ) (past : Past) (f : ℕ → Bool) (h : (k : ℕ) → k < 104 → changed k s past ≡ true → f (code k (sample s (size past) k)) ≡ true) where
+  change-all : (k : ℕ) → k < 104 → all f (change k s past) ≡ true
+  unfolding change
+  change-all k l =
+      let c = code k (sample s (size past) k) in
+      by-test (λ t. all f (cond t (c ∷ []) []) ≡ true) (changed k s past) (λ e. all-one f c (h k l e)) (λ e. all-none f)
+
+  changes-all-below : (n : ℕ) → n ≤ 104 → all f (changesBelow n s past) ≡ true
+  unfolding changesBelow
+  changes-all-below zero l = all-none f
+  changes-all-below (suc k) l = all-append f (changesBelow k s past) (change k s past) (changes-all-below k (omega arith)) (change-all k l)
+
+  pub changes-all : all f (changes s past) ≡ true
+  unfolding changes
+  changes-all = changes-all-below 104 (le-refl 104)
+
+-- "at most 15 codes wait"
+pub waiting-most : (past : Past) → length (waiting past) ≤ 15
+unfolding waiting
+waiting-most [] = omega arith
+waiting-most (looked s ∷ past) = take-most 15 (waiting past ++ changes s past)
+waiting-most (wrote r b ∷ past) = by-test (λ t. length (cond t [] (waiting past)) ≤ 15) (r is KBDSIZE) (λ e. omega arith) (λ e. waiting-most past)
+waiting-most (got r ∷ past) =
+    let most = waiting-most past in
+    by-test (λ t. length (cond t (drop 1 (waiting past)) (waiting past)) ≤ 15) (r is EVTCODE) (λ e. rw (length-drop 1 (waiting past)) (omega arith)) (λ e. most)
+
+-- "each a press or release code"
+pub waiting-codes : (past : Past) → all isCode (waiting past) ≡ true
+unfolding waiting
+waiting-codes [] = all-none isCode
+waiting-codes (looked s ∷ past) =
+    all-take isCode 15 (waiting past ++ changes s past)
+    (all-append isCode (waiting past) (changes s past) (waiting-codes past) (changes-all s past isCode (λ k l e. code-is k (sample s (size past) k) l)))
+waiting-codes (wrote r b ∷ past) = by-test (λ t. all isCode (cond t [] (waiting past)) ≡ true) (r is KBDSIZE) (λ e. all-none isCode) (λ e. waiting-codes past)
+waiting-codes (got r ∷ past) =
+    let old = waiting-codes past in
+    by-test (λ t. all isCode (cond t (drop 1 (waiting past)) (waiting past)) ≡ true) (r is EVTCODE) (λ e. all-drop isCode (waiting past) old) (λ e. old)
+
+-- "0x7F means no key"
+pub code-real : (c : ℕ) → isCode c ≡ true → c ≡ 0x7F → ⊥
+unfolding isCode isKey
+code-real c e f = let g : isCode 0x7F ≡ true = rw f at e in true-false (sym g)
+
+-- "its empty mark": a byte of EVTCODE is 0x7F only when nothing waits
+pub progress : (past : Past) → byteOf EVTCODE past ≡ 0x7F → waiting past ≡ []
+unfolding byteOf oldest
+progress past = go (waiting past) (waiting-codes past)
+  where
+    go : (w : List ℕ) → all isCode w ≡ true → oldest w ≡ 0x7F → w ≡ []
+    go [] h e = refl
+    go (c ∷ w) h e = absurd (code-real c (all-first isCode c w h) e)
+
+-- ---- the picture
+-- "the four picture registers aren't all marked read"
+pub never-all : (past : Past) → allRead (marks past) ≡ false
+unfolding marks allRead among
+never-all [] = refl
+never-all (looked s ∷ past) = by-test (λ t. allRead (cond t [] (marks past)) ≡ false) (some (changes s past)) (λ e. refl) (λ e. never-all past)
+never-all (wrote r b ∷ past) = by-test (λ t. allRead (cond t [] (marks past)) ≡ false) (r is KBDSIZE) (λ e. refl) (λ e. never-all past)
+never-all (got r ∷ past) =
+    let read = pictured r ++ marks past in
+    by-test (λ t. allRead (cond t [] read) ≡ false) (allRead read) (λ e. refl) (λ e. e)
+
+pub nth-none : (n : ℕ) → nth n [] ≡ 0x7F
+unfolding nth
+nth-none n = rw leb·zero
+
+pub nth-first : (c : ℕ) (l : List ℕ) → nth 0 (c ∷ l) ≡ c + cond (some l) 128 0
+unfolding nth some
+nth-first c [] = refl
+nth-first c (d ∷ l) = rw (lt-leb (suc (suc (length l))) 0 (omega arith), lt-ltb 1 (suc (suc (length l))) (omega arith))
+
+pub nth-next : (n c : ℕ) (l : List ℕ) → nth (suc n) (c ∷ l) ≡ nth n l
+unfolding nth
+nth-next n c l =
+    let more : ltb (suc n + 1) (suc (length l)) ≡ ltb (n + 1) (length l) = rw (add-one (suc n), add-one n) (leb·suc-suc (suc (suc n)) (length l)) in
+    rw (leb·suc-suc (length l) n, more)
+
+-- ---- the settings
+-- "KBDMSK is at most 0x0F"
+pub mask-low : (past : Past) → mask past ≤ 0x0F
+unfolding mask
+mask-low [] = omega arith
+mask-low (looked s ∷ past) = mask-low past
+mask-low (wrote r b ∷ past) = by-test (λ t. cond t (b % 16) (mask past) ≤ 15) (r is KBDMSK) (λ e. omega arith) (λ e. mask-low past)
+mask-low (got r ∷ past) = mask-low past
+
+-- the column "After reset"
+pub after-reset : (r : Register) → byteOf r [] ≡ afterReset r
+unfolding byteOf afterReset bounce size mask oldest waiting ris mis flags revtint relint rklint rsint picture heldBelow held history heldAfter without bit some
+after-reset KBDBOUNCE = refl
+after-reset KBDSIZE = refl
+after-reset KBDRIS = refl
+after-reset KBDMIS = refl
+after-reset KBDIC = refl
+after-reset KBDMSK = refl
+after-reset (KBDCODE n) = nth-none n
+after-reset EVTCODE = refl
+after-reset RSTINTCLR = refl
+after-reset Unknown = refl

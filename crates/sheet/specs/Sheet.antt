@@ -1,0 +1,223 @@
+-- THE SHEET: what the panel shows, told from what has happened to it since reset.
+--
+--    1  what can happen           Happening, Past, restarts, cleared
+--    2  the settings              bounce, size, mask
+--    3  a key                     history, held
+--    4  the changes of a look     changed, change, changesBelow, changes
+--    5  the queue                 waiting, relint
+--    6  a look with a change      allRead, marks, rsint, rklint
+--    7  the flags and the line    flags, revtint, ris, mis, porirq, line
+--    8  the picture               heldBelow, nth, picture
+--    9  the byte of a register    oldest, byteOf
+--
+-- What is quoted is document 01, in its order but for the settings, which come first.
+-- A past has its newest happening first. Every table has the same four lines:
+-- after reset; after a look; after a byte was written; after a byte was read.
+-- `A if T else B` is A where T is true, else B. `l ++ m` is l, then m; `c ∷ l` is c, then l. `&&` is and, `||` is or.
+use Prim.Native.Nat.{ℕ, zero, suc, _+_, _%_}
+use mathlib.Core.Bool.{Bool, true, false, not, _&&_, _||_}
+use mathlib.Core.List.{List, [], _∷_, _++_}
+use lib.ListN.{length, getD, take, drop}
+use lib.Dec.{leb, ltb, eqb}
+use Rattle.words.specs.Words.{_if_, _else_, among, some, without}
+use Rattle.keys.specs.Keys.{code, sample}
+use Rattle.contact.specs.Contact as contact
+use Rattle.contact.specs.Contact.{Seen, samples, heldAfter}
+use Rattle.registers.specs.declared.Register.{Register}
+use Rattle.registers.specs.declared.Register.the-variants.{KBDBOUNCE, KBDSIZE, KBDRIS, KBDMIS, KBDIC, KBDMSK, KBDCODE, EVTCODE, RSTINTCLR, Unknown}
+use Rattle.registers.specs.Registers.{_is_, pictured}
+
+-- ---- 1  WHAT CAN HAPPEN
+-- A reset begins a new past. Declined calls and questions are no happenings. "Bytes take effect one at a time, in order."
+
+pub data Happening : Type 0 where
+  -- a look with these samples was done
+  looked : List ℕ → Happening
+  -- this byte was written to this register
+  wrote : Register → ℕ → Happening
+  -- a byte of this register was read
+  got : Register → Happening
+
+abbrev pub Past : Type 0
+Past = List Happening
+
+-- "Restart means reset or an accepted write of KBDSIZE, even of the same value." "A restart by KBDSIZE opens all keys,
+-- empties their sample history and the queue, clears RSINT, RKLINT and RELINT, and forgets which picture registers were read;
+-- KBDBOUNCE, KBDMSK and PORIRQ stay."
+abbrev pub restarts : Register → Bool
+restarts r = r is KBDSIZE
+
+-- RSINT, RKLINT or RELINT, once the byte b is written to r: cleared by a restart, and by KBDIC where bit n of b is 1
+unfoldable pub cleared : ℕ → Register → ℕ → Bool → Bool
+cleared n r b flag = false if restarts r else (without n flag b if r is KBDIC else flag)
+
+-- ---- 2  THE SETTINGS: three rows of the table of registers, with the column "After reset"
+
+-- "KBDBOUNCE | R/W | 0x03 | D, any byte; reads back as written, 0 too"
+unfoldable pub bounce : Past → ℕ
+bounce [] = 0x03
+bounce (looked s ∷ past) = bounce past
+bounce (wrote r b ∷ past) = b if r is KBDBOUNCE else bounce past
+bounce (got r ∷ past) = bounce past
+
+-- "KBDSIZE | R/W | 0x22 | size; a write restarts"
+unfoldable pub size : Past → ℕ
+size [] = 0x22
+size (looked s ∷ past) = size past
+size (wrote r b ∷ past) = b if r is KBDSIZE else size past
+size (got r ∷ past) = size past
+
+-- "KBDMSK | R/W | 0x03 | low four bits kept, high four read 0"
+unfoldable pub mask : Past → ℕ
+mask [] = 0x03
+mask (looked s ∷ past) = mask past
+mask (wrote r b ∷ past) = b % 16 if r is KBDMSK else mask past
+mask (got r ∷ past) = mask past
+
+-- ---- 3  A KEY
+
+-- key k's samples "since the restart", newest first, each with the KBDBOUNCE in force at its look
+unfoldable pub history : ℕ → Past → List Seen
+history k [] = []
+history k (looked s ∷ past) = record { bounce = bounce past; closed = sample s (size past) k } ∷ history k past
+history k (wrote r b ∷ past) = [] if restarts r else history k past
+history k (got r ∷ past) = history k past
+
+-- "After a restart every key is open." From then on the contact's rule decides, look by look
+unfoldable pub held : ℕ → Past → Bool
+held k past = heldAfter (history k past)
+
+-- ---- 4  THE CHANGES OF A LOOK with samples s, made after a past
+
+-- "At each look a key in the size changes exactly when its last D samples since the restart, this look included,
+-- exist and are all the opposite of what it was before this look. D is the value in force at this look;
+-- samples taken under an older D still count." Out of the size none changes, since its samples count as open
+unfoldable pub changed : ℕ → List ℕ → Past → Bool
+changed k s past = contact.changes (bounce past) (held k past) (samples (history k (looked s ∷ past)))
+
+-- the code of key k's change, if it changes
+unfoldable pub change : ℕ → List ℕ → Past → List ℕ
+change k s past = code k (sample s (size past) k) ∷ [] if changed k s past else []
+
+-- "The changes of one look are taken by row, then by column.": those of the keys below n, then all of them
+unfoldable pub changesBelow : ℕ → List ℕ → Past → List ℕ
+changesBelow zero s past = []
+changesBelow (suc k) s past = changesBelow k s past ++ change k s past
+
+unfoldable pub changes : List ℕ → Past → List ℕ
+changes s past = changesBelow 104 s past
+
+-- ---- 5  THE QUEUE
+
+-- the codes that wait, oldest first. "Each is put in the queue if fewer than 15 codes wait; otherwise it is dropped and RELINT is set.
+-- The key counts as changed either way. Room freed by reading is used again."
+unfoldable pub waiting : Past → List ℕ
+waiting [] = []
+waiting (looked s ∷ past) = take 15 (waiting past ++ changes s past)
+waiting (wrote r b ∷ past) = [] if restarts r else waiting past
+waiting (got r ∷ past) = drop 1 (waiting past) if r is EVTCODE else waiting past
+
+-- "dropped and RELINT is set"; KBDIC: "bit 1 clears RELINT"
+unfoldable pub relint : Past → Bool
+relint [] = false
+relint (looked s ∷ past) = relint past || ltb 15 (length (waiting past ++ changes s past))
+relint (wrote r b ∷ past) = cleared 1 r b (relint past)
+relint (got r ∷ past) = relint past
+
+-- ---- 6  A LOOK WITH A CHANGE
+-- "A look with at least one change does this, in order: if RSINT is already set, set RKLINT; set RSINT;
+-- forget which picture registers were read."
+
+-- picture registers 0 to 3 are all in the list
+unfoldable pub allRead : List ℕ → Bool
+allRead l = among 0 l && among 1 l && (among 2 l && among 3 l)
+
+-- the picture registers read. "Once all four have been read since they were last forgotten, RSINT is cleared (RKLINT stays)
+-- and they are forgotten again."
+unfoldable pub marks : Past → List ℕ
+marks [] = []
+marks (looked s ∷ past) = [] if some (changes s past) else marks past
+marks (wrote r b ∷ past) = [] if restarts r else marks past
+marks (got r ∷ past) = [] if allRead (pictured r ++ marks past) else pictured r ++ marks past
+
+-- "set RSINT"; KBDIC: "bit 0 clears RSINT and RKLINT"; all four read: "RSINT is cleared"
+unfoldable pub rsint : Past → Bool
+rsint [] = false
+rsint (looked s ∷ past) = rsint past || some (changes s past)
+rsint (wrote r b ∷ past) = cleared 0 r b (rsint past)
+rsint (got r ∷ past) = false if allRead (pictured r ++ marks past) else rsint past
+
+-- "if RSINT is already set, set RKLINT"; "(RKLINT stays)"
+unfoldable pub rklint : Past → Bool
+rklint [] = false
+rklint (looked s ∷ past) = rklint past || (rsint past && some (changes s past))
+rklint (wrote r b ∷ past) = cleared 0 r b (rklint past)
+rklint (got r ∷ past) = rklint past
+
+-- ---- 7  THE FLAGS AND THE LINE
+
+-- "bit 3 RELINT, 2 REVTINT, 1 RKLINT, 0 RSINT; the rest 0"
+unfoldable pub flags : Bool → Bool → Bool → Bool → ℕ
+flags rel revt rkl rs = (8 if rel else 0) + (4 if revt else 0) + (2 if rkl else 0) + (1 if rs else 0)
+
+-- "REVTINT is 1 exactly while a code waits, so KBDIC can't clear it."
+unfoldable pub revtint : Past → Bool
+revtint past = some (waiting past)
+
+unfoldable pub ris : Past → ℕ
+ris past = flags (relint past) (revtint past) (rklint past) (rsint past)
+
+-- "KBDRIS with the bits set in KBDMSK made 0"
+unfoldable pub mis : Past → ℕ
+mis past =
+    flags
+    (without 3 (relint past) (mask past))
+    (without 2 (revtint past) (mask past))
+    (without 1 (rklint past) (mask past))
+    (without 0 (rsint past) (mask past))
+
+-- "Reset sets PORIRQ."; RSTINTCLR: "bit 0 clears PORIRQ; other bits ignored"
+unfoldable pub porirq : Past → Bool
+porirq [] = true
+porirq (looked s ∷ past) = porirq past
+porirq (wrote r b ∷ past) = without 0 (porirq past) b if r is RSTINTCLR else porirq past
+porirq (got r ∷ past) = porirq past
+
+-- "The interrupt line is asserted exactly when PORIRQ is set or KBDMIS isn't 0."
+unfoldable pub line : Past → Bool
+line past = porirq past || not (eqb (mis past) 0)
+
+-- ---- 8  THE PICTURE
+
+-- the press codes of the held keys below n, "by row, then column"
+unfoldable pub heldBelow : ℕ → Past → List ℕ
+heldBelow zero past = []
+heldBelow (suc k) past = heldBelow k past ++ (code k true ∷ [] if held k past else [])
+
+-- "KBDCODEn holds the press code of the held key number n (from 0, by row, then column), or 0x7F if there are n or fewer.
+-- It has 128 added when more than n + 1 keys are held."
+unfoldable pub nth : ℕ → List ℕ → ℕ
+nth n l = 0x7F if leb (length l) n else getD l n 0 + (128 if ltb (n + 1) (length l) else 0)
+
+unfoldable pub picture : ℕ → Past → ℕ
+picture n past = nth n (heldBelow 104 past)
+
+-- ---- 9  THE BYTE OF A REGISTER
+
+-- "oldest waiting code, which is taken out; 0x7F when none waits"
+unfoldable pub oldest : List ℕ → ℕ
+oldest [] = 0x7F
+oldest (c ∷ l) = c
+
+-- what a read of the register gives; 0 where it can't be read. "The byte that completes the four is worked out before the clearing."
+unfoldable pub byteOf : Register → Past → ℕ
+byteOf KBDBOUNCE past = bounce past
+byteOf KBDSIZE past = size past
+byteOf KBDRIS past = ris past
+byteOf KBDMIS past = mis past
+byteOf KBDIC past = 0
+byteOf KBDMSK past = mask past
+byteOf (KBDCODE n) past = picture n past
+byteOf EVTCODE past = oldest (waiting past)
+byteOf RSTINTCLR past = 0
+byteOf Unknown past = 0

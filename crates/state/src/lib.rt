@@ -1,0 +1,62 @@
+// The module state: what the panel remembers.
+pub mod queue;
+
+ghost use mathlib.Core.Path.{_≡_};
+ghost use Rattle.state.specs.Module as is;
+
+// Key k is 13 × row + column. REVTINT, KBDMIS and the interrupt line are worked out, never stored.
+#[repr(C)]
+pub struct Module {
+    // is the key held?
+    pub held: [bool; 104],
+    // the key's run: how many of its newest samples in a row are the opposite of how it is held
+    pub run: [u8; 104],
+    // the codes that wait, oldest first from the first place; unused places hold 0x7F
+    pub queue: [u8; 15],
+    // how many wait
+    pub count: u8,
+    // KBDBOUNCE
+    pub bounce: u8,
+    // KBDSIZE
+    pub size: u8,
+    // KBDMSK
+    pub mask: u8,
+    pub rsint: bool,
+    pub rklint: bool,
+    pub relint: bool,
+    pub porirq: bool,
+    // which of the four picture registers were read
+    pub seen: [bool; 4],
+}
+
+// The state after reset.
+pub fn fresh() -> Module
+    ensures { λ r. ⌜ r ≡ is.fresh ⌝ }
+{
+    Module {
+        held: [false; 104],
+        run: [0; 104],
+        queue: [0x7F; 15],
+        count: 0,
+        bounce: 0x03,
+        size: 0x22,
+        mask: 0x03,
+        rsint: false,
+        rklint: false,
+        relint: false,
+        porirq: true,
+        seen: [false; 4],
+    }
+}
+
+// The state after an accepted write of KBDSIZE.
+pub fn restarted(m: Module, size: u8) -> Module
+    ensures { λ r. ⌜ r ≡ is.restarted m size ⌝ }
+{
+    let mut next = fresh();
+    next.bounce = m.bounce;
+    next.size = size;
+    next.mask = m.mask;
+    next.porirq = m.porirq;
+    next
+}

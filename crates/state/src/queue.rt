@@ -1,0 +1,55 @@
+// The queue of 15 codes, over its lent parts.
+ghost use mathlib.Core.Path.{_≡_};
+ghost use mathlib.Core.Bool.{Bool};
+ghost use Rattle.state.specs.Module.{queue};
+ghost use Rattle.state.specs.Queue as is;
+
+// A code goes behind those that wait, or is dropped where 15 do.
+pub fn put(places: &mut [u8; 15], count: &mut u8, relint: &mut bool, code: u8)
+    ensures { λ _. ⌜ queue (now (places .exit)) (now (count .exit)) (now (relint .exit)) ≡ is.put (queue (now (places .entry)) (now (count .entry)) (now (relint .entry))) code ⌝ }
+{
+    let at = *count;
+    if at < 15 {
+        places[at as usize] = code;
+        *count = at + 1;
+        return;
+    }
+    *relint = true;
+}
+
+// The places with the first code gone and each other one place down.
+fn shifted(places: [u8; 15]) -> [u8; 15]
+    ensures { λ r. ⌜ r ≡ is.shifted places ⌝ }
+{
+    [
+        places[1],
+        places[2],
+        places[3],
+        places[4],
+        places[5],
+        places[6],
+        places[7],
+        places[8],
+        places[9],
+        places[10],
+        places[11],
+        places[12],
+        places[13],
+        places[14],
+        0x7F,
+    ]
+}
+
+// The oldest code is taken out and given; 0x7F where none waits. RELINT stays as it is.
+pub fn take_oldest(places: &mut [u8; 15], count: &mut u8) -> u8
+    ensures { λ r. ⌜ ((relint : Bool) → (r ≡ is.oldest (queue (now (places .entry)) (now (count .entry)) relint)) × (queue (now (places .exit)) (now (count .exit)) relint ≡ is.taken (queue (now (places .entry)) (now (count .entry)) relint))) ⌝ }
+{
+    let waiting = *count;
+    if waiting < 1 {
+        return 0x7F;
+    }
+    let old = *places;
+    *places = shifted(old);
+    *count = waiting - 1;
+    old[0]
+}
