@@ -7,12 +7,14 @@ ghost use lib.ListN.{length};
 ghost use Rattle.calls.specs.Calls.{resetCall, lookCall, writeCall, readCall, readBuffer, heldCall, lineCall};
 
 // What reset, look, write and read hand back; after a declined call the module is as it was given.
+#[repr(C)]
 pub struct Done {
     pub after: Module,
     pub number: u8,
 }
 
 // What a question hands back; the answer of a declined one is no.
+#[repr(C)]
 pub struct Answered {
     pub after: Module,
     pub number: u8,

@@ -3,9 +3,11 @@ ghost use mathlib.Core.Path.{_≡_};
 ghost use Rattle.keys.specs.Keys.{isKey, keyAt, rowOf, colOf, pressCode, releaseCode, code, isCode, keyOf, acceptable, inSize, keyIn};
 
 // A row, 0 to 7: the data sheet's KEYROW.
+#[repr(C)]
 pub struct Row(pub u8);
 
 // A column, 0 to 11, or 12 for the row's special function key: the data sheet's KEYCOL.
+#[repr(C)]
 pub struct Col(pub u8);
 
 // What is answered where there is no such key.

@@ -1,0 +1,192 @@
+/*
+ * The inside of a key panel, for C99 and C++.
+ *
+ * A panel keeps one `struct panel`, resets it, lends it to a look every few milliseconds and to every access that comes over the bus:
+ *
+ *     struct panel panel;
+ *     panel_reset(&panel);
+ *     panel_write(&panel, PANEL_KBDSIZE, &size, 1);
+ *     panel_look(&panel, samples, PANEL_ROWS);
+ *     panel_read(&panel, PANEL_EVTCODE, codes, sizeof codes);
+ *
+ * Each call gives a number. PANEL_DONE: the call was done. Any other: it was declined, and neither the module nor a byte of the buffer is altered. A number is given exactly when its condition holds and none before it in the call's list does.
+ *
+ * Link with libpanel.a, which `rt staticlib panel` writes. It needs memcpy and the like, and nothing else.
+ *
+ * What the six calls do is proved, for every module, every argument and every length. Outside the proof, and so for the caller to see to:
+ *   - every bool of a `struct panel` is the byte 0 or 1 (panel_reset alone asks nothing of the memory that it fills);
+ *   - a pointer is valid for its length, and not null, also when the length is 0 and when the call is declined;
+ *   - module, samples, bytes and buffer don't overlap, and nobody else touches them during a call;
+ *   - the C compiler, and the inline functions of this file.
+ */
+#ifndef PANEL_H
+#define PANEL_H
+
+#include <stdbool.h>
+#include <stddef.h>
+#include <stdint.h>
+
+#ifdef __cplusplus
+extern "C" {
+#endif
+
+/* The numbers that a call can give. */
+enum panel_number {
+    PANEL_DONE = 0,
+    PANEL_NOT_EIGHT = 1,   /* look: the list isn't eight samples */
+    PANEL_HIGH_BITS = 2,   /* look: some sample has bit 13, 14 or 15 set */
+    PANEL_NO_BYTES = 3,    /* access: no bytes */
+    PANEL_TOO_MANY = 4,    /* access: more than 32 bytes */
+    PANEL_NOT_ALLOWED = 5, /* access: some address of the run is unknown, or can't be read or written as asked */
+    PANEL_BAD_SIZE = 6,    /* write: a byte for KBDSIZE isn't acceptable */
+    PANEL_NO_KEY = 7,      /* held question: row above 7 or column above 12 */
+    PANEL_UNSOUND = 8,     /* all but reset: the module isn't sound; never after calls from reset alone */
+    PANEL_OUT_OF_SIZE = 9  /* look: a change falls on a key out of the size; never seen, since a sound module has no such change */
+};
+
+/* The registers, by the data sheet's names. Every other address is unknown. */
+enum panel_register {
+    PANEL_KBDBOUNCE = 0x02, /* R/W: looks that a contact must agree for; 0 counts as 1 */
+    PANEL_KBDSIZE = 0x03,   /* R/W: 16 x rows (2 to 8) + columns (2 to 12); a write restarts the keypad */
+    PANEL_KBDRIS = 0x06,    /* R: the flags below */
+    PANEL_KBDMIS = 0x07,    /* R: KBDRIS with the bits set in KBDMSK made 0 */
+    PANEL_KBDIC = 0x08,     /* W: bit 0 clears RSINT and RKLINT, bit 1 clears RELINT */
+    PANEL_KBDMSK = 0x09,    /* R/W: a 1 masks the flag; low four bits */
+    PANEL_KBDCODE0 = 0x0B,  /* R: the picture, four registers: the first four held keys */
+    PANEL_KBDCODE1 = 0x0C,
+    PANEL_KBDCODE2 = 0x0D,
+    PANEL_KBDCODE3 = 0x0E,
+    PANEL_EVTCODE = 0x10,   /* R: the oldest waiting code, which is taken out; the address stays here in a longer read */
+    PANEL_RSTINTCLR = 0x84  /* W: bit 0 clears PORIRQ */
+};
+
+/* The bits of KBDRIS, KBDMIS and KBDMSK. */
+enum panel_flag {
+    PANEL_RSINT = 0x01,   /* a key changed */
+    PANEL_RKLINT = 0x02,  /* a key changed while RSINT was set */
+    PANEL_REVTINT = 0x04, /* a code waits */
+    PANEL_RELINT = 0x08   /* a code was dropped, since 15 waited */
+};
+
+/* Codes: a key's press code is 16 x row + column, its release code has PANEL_RELEASED added. */
+enum panel_code {
+    PANEL_NO_CODE = 0x7F, /* no key */
+    PANEL_RELEASED = 0x80
+};
+
+/* How many there are. */
+enum panel_count {
+    PANEL_ROWS = 8,
+    PANEL_COLS = 13, /* column 12 is the row's special function key */
+    PANEL_KEYS = 104,
+    PANEL_PLACES = 15, /* codes that can wait */
+    PANEL_BYTES = 32   /* the most that an access carries */
+};
+
+/*
+ * The module: 235 bytes, alignment 1, no padding. Key k is 13 x row + column.
+ * It is sound when each field is as said here; a call declines any other with PANEL_UNSOUND.
+ */
+struct panel {
+    bool held[104];    /* is the key held? Not if it is out of the size */
+    uint8_t run[104];  /* how many of its newest samples in a row are the opposite: at most 254, and 0 out of the size */
+    uint8_t queue[15]; /* the codes that wait, of keys in the size, oldest first; unused places hold 0x7F */
+    uint8_t count;     /* how many wait: at most 15 */
+    uint8_t bounce;    /* KBDBOUNCE */
+    uint8_t size;      /* KBDSIZE: acceptable */
+    uint8_t mask;      /* KBDMSK: at most 0x0F */
+    bool rsint;
+    bool rklint;
+    bool relint;
+    bool porirq;       /* reset happened; the interrupt line is asserted until RSTINTCLR clears it */
+    bool seen[4];      /* which picture registers were read: never all four */
+};
+
+/* A row, 0 to 7, and a column, 0 to 12: types of their own, so that the compiler rejects one used as the other. */
+struct panel_row {
+    uint8_t row;
+};
+
+struct panel_col {
+    uint8_t col;
+};
+
+/*
+ * One look: a sample for each row, bit c set when column c is closed, bit 12 for the special function key.
+ * Numbers: PANEL_UNSOUND, PANEL_NOT_EIGHT, PANEL_HIGH_BITS, PANEL_OUT_OF_SIZE, else PANEL_DONE.
+ */
+uint8_t panel_look(struct panel *panel, const uint16_t *samples, size_t count);
+
+/*
+ * A write access: bytes to the registers from `first` on, each taking effect in order.
+ * Numbers: PANEL_UNSOUND, PANEL_NO_BYTES, PANEL_TOO_MANY, PANEL_NOT_ALLOWED, PANEL_BAD_SIZE, else PANEL_DONE.
+ */
+uint8_t panel_write(struct panel *panel, uint8_t first, const uint8_t *bytes, size_t count);
+
+/*
+ * A read access: the whole buffer is filled from the registers from `first` on.
+ * Numbers: PANEL_UNSOUND, PANEL_NO_BYTES, PANEL_TOO_MANY, PANEL_NOT_ALLOWED, else PANEL_DONE.
+ */
+uint8_t panel_read(struct panel *panel, uint8_t first, uint8_t *buffer, size_t count);
+
+/* What the calls by value hand back: the module after the call (as it was given, after a question), and the number. */
+struct panel_done {
+    struct panel after;
+    uint8_t number;
+};
+
+struct panel_answered {
+    struct panel after;
+    uint8_t number;
+    bool yes;
+};
+
+/* Reset and the two questions, by value. The functions below are the same over a pointer. */
+struct panel_done panel_reset_value(void);
+struct panel_answered panel_held_value(struct panel panel, struct panel_row row, struct panel_col col);
+struct panel_answered panel_interrupt_value(struct panel panel);
+
+/* Refused where the compiler lays the structs out otherwise. */
+typedef char panel_layout_is_right[sizeof(struct panel) == 235 && sizeof(struct panel_done) == 236 && sizeof(struct panel_answered) == 237 ? 1 : -1];
+
+static inline struct panel_row panel_row(uint8_t row)
+{
+    struct panel_row made = {row};
+    return made;
+}
+
+static inline struct panel_col panel_col(uint8_t col)
+{
+    struct panel_col made = {col};
+    return made;
+}
+
+/* Reset: the module after it, whatever the memory held before. Number: PANEL_DONE, always. */
+static inline uint8_t panel_reset(struct panel *panel)
+{
+    struct panel_done done = panel_reset_value();
+    *panel = done.after;
+    return done.number;
+}
+
+/* Is this key held? No, if the call is declined or the key is out of the size. Numbers: PANEL_UNSOUND, PANEL_NO_KEY, else PANEL_DONE. */
+static inline uint8_t panel_held(const struct panel *panel, struct panel_row row, struct panel_col col, bool *yes)
+{
+    struct panel_answered answered = panel_held_value(*panel, row, col);
+    *yes = answered.yes;
+    return answered.number;
+}
+
+/* Is the interrupt line asserted? No, if the call is declined. Numbers: PANEL_UNSOUND, else PANEL_DONE. */
+static inline uint8_t panel_interrupt(const struct panel *panel, bool *yes)
+{
+    struct panel_answered answered = panel_interrupt_value(*panel);
+    *yes = answered.yes;
+    return answered.number;
+}
+
+#ifdef __cplusplus
+}
+#endif
+
+#endif

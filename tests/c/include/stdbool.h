@@ -1,0 +1,11 @@
+/* Only what the header and the tests use: the toolchain's compiler brings no headers. */
+#ifndef STDBOOL_H
+#define STDBOOL_H
+
+#ifndef __cplusplus
+#define bool _Bool
+#define true 1
+#define false 0
+#endif
+
+#endif

@@ -1,0 +1,183 @@
+/* The header's layout is the archive's: told by the compiler, and seen through calls that write known fields. */
+#include "check.h"
+
+/* Where the archive keeps each field; written out here, so that a slip in the header is seen. */
+enum place { HELD_AT = 0, RUN_AT = 104, QUEUE_AT = 208, COUNT_AT = 223, BOUNCE_AT = 224, SIZE_AT = 225, MASK_AT = 226, RSINT_AT = 227, RKLINT_AT = 228, RELINT_AT = 229, PORIRQ_AT = 230, SEEN_AT = 231, END = 235 };
+
+struct after_a_byte {
+    char byte;
+    struct panel panel;
+};
+
+static void told_by_the_compiler(void)
+{
+    group("layout", "as the compiler tells it");
+    SAME(sizeof(struct panel), END);
+    SAME(offsetof(struct after_a_byte, panel), 1);
+    SAME(offsetof(struct panel, held), HELD_AT);
+    SAME(offsetof(struct panel, run), RUN_AT);
+    SAME(offsetof(struct panel, queue), QUEUE_AT);
+    SAME(offsetof(struct panel, count), COUNT_AT);
+    SAME(offsetof(struct panel, bounce), BOUNCE_AT);
+    SAME(offsetof(struct panel, size), SIZE_AT);
+    SAME(offsetof(struct panel, mask), MASK_AT);
+    SAME(offsetof(struct panel, rsint), RSINT_AT);
+    SAME(offsetof(struct panel, rklint), RKLINT_AT);
+    SAME(offsetof(struct panel, relint), RELINT_AT);
+    SAME(offsetof(struct panel, porirq), PORIRQ_AT);
+    SAME(offsetof(struct panel, seen), SEEN_AT);
+    SAME(offsetof(struct panel_done, number), END);
+    SAME(offsetof(struct panel_answered, number), END);
+    SAME(offsetof(struct panel_answered, yes), END + 1);
+    group_ends();
+}
+
+/* The bytes that a module must have, and whether it has them. */
+static uint8_t image[END];
+
+static void image_after_reset(void)
+{
+    memset(image, 0, END);
+    memset(image + QUEUE_AT, 0x7F, 15);
+    image[BOUNCE_AT] = 0x03;
+    image[SIZE_AT] = 0x22;
+    image[MASK_AT] = 0x03;
+    image[PORIRQ_AT] = 1;
+}
+
+static bool is_image(const struct panel *panel)
+{
+    return memcmp(panel, image, END) == 0;
+}
+
+/* Each setting is written and found in its own byte, and in no other. */
+static void settings_seen(void)
+{
+    group("layout seen through calls", "the settings");
+    struct panel panel = after_reset();
+    image_after_reset();
+    SO(is_image(&panel));
+    SAME(WRITE(&panel, PANEL_KBDBOUNCE, 0xA5), 0);
+    image[BOUNCE_AT] = 0xA5;
+    SO(is_image(&panel));
+    SAME(WRITE(&panel, PANEL_KBDSIZE, 0x8C), 0);
+    image[SIZE_AT] = 0x8C;
+    SO(is_image(&panel));
+    SAME(WRITE(&panel, PANEL_KBDMSK, 0xF9), 0);
+    image[MASK_AT] = 0x09;
+    SO(is_image(&panel));
+    SAME(WRITE(&panel, PANEL_RSTINTCLR, 0x01), 0);
+    image[PORIRQ_AT] = 0;
+    SO(is_image(&panel));
+    group_ends();
+}
+
+/* A contact's run, the key that it becomes, its code, and the flags. */
+static void keys_seen(void)
+{
+    group("layout seen through calls", "keys, runs, codes and flags");
+    struct panel panel = after_reset();
+    image_after_reset();
+    SAME(WRITE(&panel, PANEL_KBDBOUNCE, 2, 0x8C), 0);
+    image[BOUNCE_AT] = 2;
+    image[SIZE_AT] = 0x8C;
+    SAME(LOOK(&panel, 0, 0, 0, 0, 0, 0, 0, 0x1000), 0);
+    image[RUN_AT + 103] = 1;
+    SO(is_image(&panel));
+    SAME(LOOK(&panel, 1, 0, 0, 0, 0, 0, 0, 0x1000), 0);
+    image[RUN_AT + 0] = 1;
+    image[RUN_AT + 103] = 0;
+    image[HELD_AT + 103] = 1;
+    image[QUEUE_AT] = 0x7C;
+    image[COUNT_AT] = 1;
+    image[RSINT_AT] = 1;
+    SO(is_image(&panel));
+    SAME(LOOK(&panel, 1, 0, 0, 0, 0, 0, 0, 0x1000), 0);
+    image[RUN_AT + 0] = 0;
+    image[HELD_AT + 0] = 1;
+    image[QUEUE_AT + 1] = 0x00;
+    image[COUNT_AT] = 2;
+    image[RKLINT_AT] = 1;
+    SO(is_image(&panel));
+    group_ends();
+}
+
+/* The picture registers' marks, one by one, and what the fourth does. */
+static void marks_seen(void)
+{
+    group("layout seen through calls", "the picture registers read");
+    struct panel panel = after_reset();
+    int n;
+    image_after_reset();
+    for (n = 0; n < 4; n++) {
+        panel = after_reset();
+        READS(&panel, (uint8_t)(PANEL_KBDCODE0 + n), 0x7F);
+        image[SEEN_AT + n] = 1;
+        SO(is_image(&panel));
+        image[SEEN_AT + n] = 0;
+    }
+    READS(&panel, PANEL_KBDCODE0, 0x7F, 0x7F, 0x7F);
+    SO(is_image(&panel));
+    group_ends();
+}
+
+/* Sixteen changes in one look: fifteen places, and RELINT. */
+static void places_seen(void)
+{
+    group("layout seen through calls", "the fifteen places and RELINT");
+    struct panel panel = after_reset();
+    int k;
+    image_after_reset();
+    SAME(WRITE(&panel, PANEL_KBDBOUNCE, 1, 0x8C), 0);
+    SAME(LOOK(&panel, 0x1FFF, 0x0007, 0, 0, 0, 0, 0, 0), 0);
+    image[BOUNCE_AT] = 1;
+    image[SIZE_AT] = 0x8C;
+    for (k = 0; k < 16; k++)
+        image[HELD_AT + k] = 1;
+    for (k = 0; k < 13; k++)
+        image[QUEUE_AT + k] = (uint8_t)k;
+    image[QUEUE_AT + 13] = 0x10;
+    image[QUEUE_AT + 14] = 0x11;
+    image[COUNT_AT] = 15;
+    image[RSINT_AT] = 1;
+    image[RELINT_AT] = 1;
+    SO(is_image(&panel));
+    group_ends();
+}
+
+/* The calls by value: the module that comes back, the number and the answer. */
+static void values_seen(void)
+{
+    group("layout seen through calls", "calls by value");
+    struct panel panel = after_reset();
+    struct panel_done done = panel_reset_value();
+    struct panel_answered held, line;
+    image_after_reset();
+    SO(is_image(&done.after));
+    SAME(done.number, 0);
+    SAME(WRITE(&panel, PANEL_KBDBOUNCE, 1), 0);
+    SAME(LOOK(&panel, 0, 0x0002, 0, 0, 0, 0, 0, 0), 0);
+    held = panel_held_value(panel, panel_row(1), panel_col(1));
+    SO(same_panel(&held.after, &panel));
+    SAME(held.number, 0);
+    SO(held.yes);
+    held = panel_held_value(panel, panel_row(8), panel_col(1));
+    SO(same_panel(&held.after, &panel));
+    SAME(held.number, 7);
+    SO(!held.yes);
+    line = panel_interrupt_value(panel);
+    SO(same_panel(&line.after, &panel));
+    SAME(line.number, 0);
+    SO(line.yes);
+    group_ends();
+}
+
+void layout(void)
+{
+    told_by_the_compiler();
+    settings_seen();
+    keys_seen();
+    marks_seen();
+    places_seen();
+    values_seen();
+}
