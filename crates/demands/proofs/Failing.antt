@@ -1,0 +1,81 @@
+-- HOW A MACHINE IS SEEN NOT TO MEET A DEMAND: by a list of calls, what is found after them, and what was to be found.
+--
+--    LedgerWrong found wanted      the codes fetched and those that wait           no-ledger
+--    KeyWrong row col found        how a key is held                               no-key
+--    BytesWrong a found wanted     the bytes of a done read at a                   no-bytes
+--    ProgressWrong found wanted    the codes fetched, once EVTCODE gives 7F        no-progress
+--    LossWrong                     RELINT, once a change was lost                  no-report
+--
+-- Each is of a machine M and calls cs, newest first, whose bytes fit. The law beside it: then M does not meet the demand.
+-- Assumes nothing.
+use Prim.Native.Nat.{ℕ, _+_, _*_, _≤_}
+use mathlib.Core.Path.{_≡_, refl, sym, ap, _∙_}
+use mathlib.Core.Bool.{Bool, true, false, not}
+use mathlib.Core.List.{List, [], _∷_, _++_}
+use borrow.Author.Tests.{eq-eqb}
+use lib.Dec.{eqb}
+use lib.ListN.{length}
+use Rattle.words.specs.Words.{all, some, bit}
+use Rattle.words.proofs.Laws.{true-false, and-both}
+use Rattle.sheet.specs.Sheet as sheet
+use Rattle.sheet.specs.Ledger.{kept, arrivals, unreported}
+use Rattle.demands.specs.Machine.{Call, read, held, Machine, after, done, fits, fetched, seen}
+use Rattle.demands.specs.Demands.{Demand2, Demand3, NoSilentLoss, bytesOf}
+use Rattle.demands.specs.Sessions.{same}
+
+same-refl : (l : List ℕ) → same l l ≡ true
+unfolding same
+same-refl [] = refl
+same-refl (x ∷ l) = and-both (eqb x x) (same l l) (eq-eqb x x refl) (same-refl l)
+
+differ : (k l : List ℕ) → same k l ≡ false → k ≡ l → ⊥
+differ k l e f = true-false (sym (same-refl k) ∙ ap (same k) f ∙ e)
+
+opposite-not : (b : Bool) → b ≡ not b → ⊥
+opposite-not true e = true-false e
+opposite-not false e = true-false (sym e)
+
+module _ (M : Machine) (cs : List Call) where
+  -- the codes fetched and those that wait
+  unfoldable pub LedgerWrong : List ℕ → List ℕ → Type 0
+  LedgerWrong found wanted =
+      (all fits cs ≡ true) × (fetched M cs ++ seen M (after M cs) ≡ found) × (kept (arrivals (done M cs)) ≡ wanted) × (same found wanted ≡ false)
+
+  pub no-ledger : (found wanted : List ℕ) → LedgerWrong found wanted → Demand3 M → ⊥
+  unfolding LedgerWrong
+  no-ledger found wanted w d = differ found wanted (w .3) (sym (w .1) ∙ d .ledger cs (w .0) ∙ w .2)
+
+  -- how a key is held
+  unfoldable pub KeyWrong : ℕ → ℕ → Bool → Type 0
+  KeyWrong row col found = (all fits cs ≡ true) × (M .does (after M cs) (held row col) .answer ≡ found) × (sheet.held (13 * row + col) (done M cs) ≡ not found)
+
+  pub no-key : (row col : ℕ) (found : Bool) → row ≤ 7 → col ≤ 12 → KeyWrong row col found → Demand2 M → ⊥
+  unfolding KeyWrong
+  no-key row col found r c w d = opposite-not found (sym (w .1) ∙ d .keys cs (w .0) row col r c ∙ w .2)
+
+  -- the bytes of a done read
+  unfoldable pub BytesWrong : ℕ → List ℕ → List ℕ → Type 0
+  BytesWrong a found wanted =
+      let g = M .does (after M cs) (read a found) in
+      (all fits cs ≡ true) × (g .number ≡ 0) × (g .buffer ≡ found) × (bytesOf a (length found) (done M cs) ≡ wanted) × (same found wanted ≡ false)
+
+  pub no-bytes : (a : ℕ) (found wanted : List ℕ) → BytesWrong a found wanted → Demand2 M → ⊥
+  unfolding BytesWrong
+  no-bytes a found wanted w d = differ found wanted (w .4) (sym (w .2) ∙ d .bytes cs (w .0) a found (w .1) ∙ w .3)
+
+  -- a byte of EVTCODE is the empty mark; what was fetched, and what the history demands
+  unfoldable pub ProgressWrong : List ℕ → List ℕ → Type 0
+  ProgressWrong found wanted =
+      (all fits cs ≡ true) × (M .does (after M cs) (read 0x10 (0 ∷ [])) .buffer ≡ 0x7F ∷ []) × (fetched M cs ≡ found) × (kept (arrivals (done M cs)) ≡ wanted) × (same found wanted ≡ false)
+
+  pub no-progress : (found wanted : List ℕ) → ProgressWrong found wanted → Demand3 M → ⊥
+  unfolding ProgressWrong
+  no-progress found wanted w d = differ found wanted (w .4) (sym (w .2) ∙ d .progress cs (w .0) (w .1) ∙ w .3)
+
+  -- RELINT is not set, though a loss is unreported
+  unfoldable pub LossWrong : Type 0
+  LossWrong = (all fits cs ≡ true) × (all (bit 3) (M .does (after M cs) (read 0x06 (0 ∷ [])) .buffer) ≡ false) × (some (unreported (done M cs)) ≡ true)
+
+  pub no-report : LossWrong → NoSilentLoss M → ⊥
+  unfolding LossWrong
+  no-report w d = true-false (sym (w .2) ∙ sym (d .told cs (w .0)) ∙ w .1)

@@ -1,0 +1,16 @@
+pub mod Queue
+pub mod Look
+pub mod Bytes
+pub mod Simulation
+pub mod Answers
+pub mod Sound
+pub mod Reached
+pub mod Observed
+pub mod Numbers
+pub mod Rows
+pub mod Meets
+pub mod Failing
+pub mod Refuted
+pub mod Sessions
+pub mod Determined
+pub mod Source

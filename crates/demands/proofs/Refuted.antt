@@ -1,0 +1,193 @@
+-- NO WRONG MACHINE OF specs/Wrong.antt MEETS THE DEMANDS: for each a short list of calls after which it is seen.
+--
+--    built-usual                with our own effects the machine that is built is ours
+--    rows, pressed, ..          the calls, newest first
+--    Told, told                 what is found of each machine, and what was to be found: ALL COMPUTED
+--    declining-refuted, ..      no wrong machine meets the demand
+-- Assumes nothing.
+use Prim.Native.Nat.{ℕ}
+use native.Mathlib.Omega.{arith}
+use mathlib.Core.Path.{_≡_, refl, sym, ap, _∙_}
+use mathlib.Core.Bool.{false}
+use mathlib.Core.List.{List, [], _∷_}
+use lib.ListN.{replicate}
+use Rattle.words.specs.Words.{every, all, allBelow, among, some, bit, without, table}
+use Rattle.numbers.specs.Numbers.{numberOf}
+use Rattle.keys.specs.Keys.{isKey, keyAt, rowOf, colOf, pressCode, releaseCode, code, keyOf, acceptable, inSize, keyIn, sample}
+use Rattle.contact.specs.Contact as contact
+use Rattle.contact.specs.Contact.{looks, opposite, samples, heldAfter, stepped}
+use Rattle.registers.specs.Registers.{registerAt, allowed, address, _is_}
+use Rattle.registers.specs.Runs.{next, addresses, runAllowed}
+use Rattle.judge.specs.Lines.{high, sampleLines, accessLines, byteFits, sizesFit, readLines, writeLines}
+use Rattle.sheet.specs.Sheet as sheet
+use Rattle.sheet.specs.Ledger.{codeGot, room, arriving, kept, lost, coming, arrivals, unreported}
+use Rattle.sheet.specs.Ledger as ledger
+use Rattle.state.specs.declared.Module.{Module}
+use Rattle.state.specs.Module as state
+use Rattle.state.specs.Module.{fresh, forgotten}
+use Rattle.state.specs.Queue as queues
+use Rattle.flags.specs.Flags.{weigh, ris}
+use Rattle.picture.specs.Picture as picture
+use Rattle.sound.specs.Sound.{keySound, keysSound, codesSound, restUnused, sound}
+use Rattle.scan.specs.Scan as scan
+use Rattle.access.specs.Bytes as bytes
+use Rattle.access.specs.Accesses as access
+use Rattle.calls.specs.Calls.{lookLines, heldLines, lookNumber, writeNumber, readNumber, heldNumber, lineNumber, outcome, answer, resetCall, lookCall, writeCall, readCall, readBuffer, heldCall, lineCall}
+use Rattle.demands.specs.Machine.{Call, reset, look, write, read, held, interrupt, after, wrotes, gots, happened, done, fits, codesIn, covers, fetchedBy, fetched, seen}
+use Rattle.demands.specs.Table.{rules}
+use Rattle.demands.specs.Demands.{Demand1, Demand2, Demand3, NoSilentLoss, bytesOf}
+use Rattle.demands.specs.Ours.{changing, asking, called, ours}
+use Rattle.demands.specs.Sessions.{same}
+use Rattle.demands.specs.Wrong.{usual, calledBy, declined, declining, blankBytes, stays, blank, stuck, nothing, asleep, onlyFirst, once, madeUp, inventive, runsKept, remembering, roomFor, keysKept, unchanged, emptied, emptying, pastState, pastBytes, passing, takenFirst, hurried, hasty, putLate, putAllLate, oldestLost, forgetful, single, singleStays, singleBlank, stingy, silent}
+use Rattle.demands.specs.Wrong as wrong
+use Rattle.demands.proofs.Failing.{LedgerWrong, no-ledger, KeyWrong, no-key, BytesWrong, no-bytes, ProgressWrong, no-progress, LossWrong, no-report}
+use Rattle.demands.proofs.Numbers.{first-only}
+use Rattle.demands.proofs.Rows.{numbers-exact}
+
+-- ---- ours, but for one effect
+built-usual : (m : Module) (c : Call) → calledBy usual m c ≡ called m c
+unfolding calledBy called lookCall writeCall readCall readBuffer
+built-usual m reset = refl
+built-usual m (look s) = refl
+built-usual m (write a bs) = refl
+built-usual m (read a out) = refl
+built-usual m (held row col) = refl
+built-usual m interrupt = refl
+
+-- ---- the calls, newest first
+-- a look with these samples of rows 0 and 1, the other rows open
+rows : ℕ → ℕ → Call
+rows row0 row1 = look (row0 ∷ row1 ∷ 0 ∷ 0 ∷ 0 ∷ 0 ∷ 0 ∷ 0 ∷ [])
+
+-- row 1 column 1 closed for one look, with bounce 1
+pressed : List Call
+pressed = rows 0 0x0002 ∷ write 0x02 (1 ∷ []) ∷ []
+
+-- the same key closed for one look before a restart and one after it, with bounce 2
+restarted : List Call
+restarted = rows 0 0x0002 ∷ write 0x03 (0x22 ∷ []) ∷ rows 0 0x0002 ∷ write 0x02 (2 ∷ []) ∷ []
+
+-- sixteen keys closed in one look, with bounce 1 and size 8C
+sixteen : List Call
+sixteen = rows 0x0FFF 0x000F ∷ write 0x02 (1 ∷ 0x8C ∷ []) ∷ []
+
+-- a code waits, and a read of 33 bytes of EVTCODE, though it is declined, takes it out
+abbrev TakenWrong : Type 0
+TakenWrong =
+    let m = after hasty pressed in
+    let g = hasty .does m (read 0x10 (replicate 33 0)) in
+    (g .number ≡ 4) × (m .count ≡ 1) × (g .next .count ≡ 0)
+
+-- ---- what is found, and what was to be found
+record Told : Type 0 where
+  declining : called fresh interrupt .number ≡ 0
+  blank-bytes : BytesWrong blank pressed 0x10 (0x7F ∷ []) (0x11 ∷ [])
+  blank : LedgerWrong blank pressed [] (0x11 ∷ [])
+  stuck-bytes : BytesWrong stuck pressed 0x10 (0x7F ∷ []) (0x11 ∷ [])
+  stuck : LedgerWrong stuck pressed [] (0x11 ∷ [])
+  asleep : KeyWrong asleep pressed 1 1 false
+  once : LedgerWrong once (rows 0 0 ∷ pressed) (0x11 ∷ []) (0x11 ∷ 0x91 ∷ [])
+  inventive : LedgerWrong inventive (rows 0 0 ∷ []) (0x00 ∷ []) []
+  remembering : LedgerWrong remembering restarted (0x11 ∷ []) []
+  unchanged : KeyWrong unchanged sixteen 1 3 false
+  emptying : LedgerWrong emptying (write 0x08 (0x02 ∷ []) ∷ pressed) [] (0x11 ∷ [])
+  passing : BytesWrong passing [] 0x10 (0x7F ∷ 0x00 ∷ []) (0x7F ∷ 0x7F ∷ [])
+  hasty : TakenWrong
+  forgetful : LedgerWrong forgetful sixteen (1 ∷ 2 ∷ 3 ∷ 4 ∷ 5 ∷ 6 ∷ 7 ∷ 8 ∷ 9 ∷ 0x0A ∷ 0x0B ∷ 0x10 ∷ 0x11 ∷ 0x12 ∷ 0x13 ∷ []) (0 ∷ 1 ∷ 2 ∷ 3 ∷ 4 ∷ 5 ∷ 6 ∷ 7 ∷ 8 ∷ 9 ∷ 0x0A ∷ 0x0B ∷ 0x10 ∷ 0x11 ∷ 0x12 ∷ [])
+  stingy : ProgressWrong stingy pressed [] (0x11 ∷ [])
+  silent : LossWrong silent sixteen
+
+told : Told
+unfolding LedgerWrong KeyWrong BytesWrong ProgressWrong LossWrong same rows pressed restarted sixteen after done happened wrotes gots fits fetched fetchedBy covers codesIn seen bytesOf calledBy changing asking outcome answer resetCall heldCall lineCall lookNumber writeNumber readNumber heldNumber lineNumber lookLines heldLines sampleLines accessLines byteFits sizesFit readLines writeLines high numberOf runAllowed addresses next registerAt allowed address _is_ sound keySound keysSound codesSound restUnused scan.strays scan.looked scan.contacts scan.noticed scan.changes scan.changesBelow scan.contactAt access.wrote access.readAll access.bytesRead bytes.written bytes.readOut bytes.byteOf queues.waiting queues.waits queues.put queues.putAll queues.oldest queues.shifted queues.taken picture.allRead picture.marked fresh state.restarted forgotten stepped looks opposite samples heldAfter contact.changes isKey keyAt rowOf colOf pressCode releaseCode code keyOf acceptable inSize keyIn sample every all allBelow among some bit without table sheet.bounce sheet.size sheet.history sheet.held sheet.changed sheet.change sheet.changesBelow sheet.changes sheet.waiting sheet.oldest sheet.byteOf codeGot room arriving kept coming arrivals ledger.taken blankBytes stays nothing onlyFirst madeUp runsKept roomFor keysKept emptied pastState pastBytes hurried takenFirst called lookCall writeCall readCall readBuffer oldestLost putLate putAllLate single singleStays singleBlank wrong.unreported unreported lost weigh ris
+told =
+    record {
+      declining = refl;
+      blank-bytes = (refl, refl, refl, refl, refl);
+      blank = (refl, refl, refl, refl);
+      stuck-bytes = (refl, refl, refl, refl, refl);
+      stuck = (refl, refl, refl, refl);
+      asleep = (refl, refl, refl);
+      once = (refl, refl, refl, refl);
+      inventive = (refl, refl, refl, refl);
+      remembering = (refl, refl, refl, refl);
+      unchanged = (refl, refl, refl);
+      emptying = (refl, refl, refl, refl);
+      passing = (refl, refl, refl, refl, refl);
+      hasty = (refl, refl, refl);
+      forgetful = (refl, refl, refl, refl);
+      stingy = (refl, refl, refl, refl, refl);
+      silent = (refl, refl, refl);
+    }
+
+-- ---- "Try these and see them rejected"
+-- "a module that declines every call (the table's exact conditions, demand 1)"
+pub declining-refuted : Demand1 declining → ⊥
+unfolding declined rules
+declining-refuted d =
+    let e : 8 ≡ called fresh interrupt .number = first-only (rules ours fresh interrupt) 8 (called fresh interrupt .number) (d .exact fresh interrupt) (numbers-exact fresh interrupt) in
+    omega (arith, e ∙ told .declining)
+
+-- "one whose EVTCODE is always 7F" (the history rule, demand 2), the code being taken out
+pub blank-bytes-refuted : Demand2 blank → ⊥
+blank-bytes-refuted = no-bytes blank pressed 0x10 _ _ (told .blank-bytes)
+
+-- and the ledger too
+pub blank-refuted : Demand3 blank → ⊥
+blank-refuted = no-ledger blank pressed _ _ (told .blank)
+
+-- the same, the code not being taken out
+pub stuck-bytes-refuted : Demand2 stuck → ⊥
+stuck-bytes-refuted = no-bytes stuck pressed 0x10 _ _ (told .stuck-bytes)
+
+pub stuck-refuted : Demand3 stuck → ⊥
+stuck-refuted = no-ledger stuck pressed _ _ (told .stuck)
+
+-- "or whose look does nothing (the history rule, demand 2)"
+pub asleep-refuted : Demand2 asleep → ⊥
+asleep-refuted = no-key asleep pressed 1 1 false (omega arith) (omega arith) (told .asleep)
+
+-- "one that handles the first look and ignores later ones (demand 3, over all looks)"
+pub once-refuted : Demand3 once → ⊥
+once-refuted = no-ledger once _ _ _ (told .once)
+
+-- "one with a made-up number waiting (demand 3 ties the queue to the history)"
+pub inventive-refuted : Demand3 inventive → ⊥
+inventive-refuted = no-ledger inventive _ _ _ (told .inventive)
+
+-- ---- "Plausible errors in a key module"
+-- "Counting a bounce run across a restart, so that one look presses a key."
+pub remembering-refuted : Demand3 remembering → ⊥
+remembering-refuted = no-ledger remembering _ _ _ (told .remembering)
+
+-- "Not changing the held key when its code was dropped"
+pub unchanged-refuted : Demand2 unchanged → ⊥
+unchanged-refuted = no-key unchanged sixteen 1 3 false (omega arith) (omega arith) (told .unchanged)
+
+-- "Clearing REVTINT on a KBDIC write while codes wait."
+pub emptying-refuted : Demand3 emptying → ⊥
+emptying-refuted = no-ledger emptying _ _ _ (told .emptying)
+
+-- "Stepping past EVTCODE in a long read"
+pub passing-refuted : Demand2 passing → ⊥
+passing-refuted = no-bytes passing [] 0x10 _ _ (told .passing)
+
+-- "or taking codes out for an access that is then declined"
+pub hasty-refuted : Demand1 hasty → ⊥
+hasty-refuted d =
+    let t = told .hasty in
+    let e = d .declined (after hasty pressed) (read 0x10 (replicate 33 0)) (λ z. omega (arith, sym (t .0) ∙ z)) in
+    let z : _≡_ {A = ℕ} 0 1 = sym (t .2) ∙ ap (λ (m : Module). m .count) (e .0) ∙ t .1 in
+    omega arith
+
+-- "Letting the oldest code fall out of a full queue."
+pub forgetful-refuted : Demand3 forgetful → ⊥
+forgetful-refuted = no-ledger forgetful sixteen _ _ (told .forgetful)
+
+-- ---- beyond document 01's list
+-- the ledger alone would let this one pass: its codes can be seen, but not fetched one by one
+pub stingy-refuted : Demand3 stingy → ⊥
+stingy-refuted = no-progress stingy pressed _ _ (told .stingy)
+
+-- "Last spring a release went missing"
+pub silent-refuted : NoSilentLoss silent → ⊥
+silent-refuted = no-report silent sixteen (told .silent)

@@ -1,0 +1,238 @@
+-- THE ROWS OF THE TABLE, for our calls: each Bool that a call judges by decides the proposition of its row.
+--
+--    decide-high                "some sample has bit 13, 14 or 15 set"
+--    decide-run                 "some address of the run is unknown, or can't be read or written as asked"
+--    size-place                 KBDSIZE is at 0x03 and nowhere else
+--    decide-sizes               "a byte for KBDSIZE isn't acceptable"
+--    decide-key                 "row above 7 or column above 12"
+--    numbers-exact              EVERY CALL, IN EVERY STATE, gives the number of the first row that holds
+--    declined-alters-nothing    a number that isn't 0 leaves state and buffer as they came, and a question's answer is no
+--    unsound-means              the row 8 for ours: not all is so that "A state is sound when:" lists
+--    astray-means               the row 9 for ours: some key out of the size changes
+-- Assumes nothing.
+use Prim.Native.Nat.{ℕ, zero, suc, _-_, _<_, _≤_}
+use native.Mathlib.Decide.{ℕ-discrete, decLe}
+use native.Mathlib.Omega.{arith}
+use mathlib.Core.Path.{_≡_, refl, sym, ap, _∙_}
+use mathlib.Core.Logic.{_⊎_, inl, inr}
+use mathlib.Core.Bool.{Bool, true, false, cond, not, _&&_, _||_, and-true}
+use mathlib.Core.List.{List, [], _∷_}
+use borrow.Author.Tests.{ne-eqb, eqb-true}
+use lib.Dec.{eqb, leb}
+use lib.ListN.{length, getD}
+use Rattle.words.specs.Words.{all, allBelow, bit}
+use Rattle.words.proofs.Laws.{true-false, and-left, and-right, all-first, all-rest, all-below}
+use Rattle.keys.specs.Keys.{isKey, acceptable, keyIn}
+use Rattle.keys.proofs.Laws.{key-yes, key-row, key-col}
+use Rattle.registers.specs.declared.Register.the-variants.{KBDBOUNCE, KBDSIZE, KBDRIS, KBDMIS, KBDIC, KBDMSK, KBDCODE, EVTCODE, RSTINTCLR, Unknown}
+use Rattle.registers.specs.declared.Access.{Access}
+use Rattle.registers.specs.declared.Access.the-variants.{Read, Write}
+use Rattle.registers.specs.Registers.{registerAt, address, allowed, _is_}
+use Rattle.registers.specs.Runs.{next, addresses, runAllowed}
+use Rattle.judge.specs.Lines.{high, byteFits, sizesFit, sampleLines, accessLines, readLines, writeLines}
+use Rattle.state.specs.declared.Module.{Module}
+use Rattle.sound.specs.Sound.{sound, Sound}
+use Rattle.sound.proofs.Laws.{sound-facts, facts-sound}
+use Rattle.scan.specs.Scan.{contactAt, strays}
+use Rattle.calls.specs.Calls.{lookLines, heldLines, lookNumber, writeNumber, readNumber, heldNumber, lineNumber, outcome, answer, resetCall, lookCall, writeCall, readCall, readBuffer, heldCall, lineCall}
+use Rattle.demands.specs.Machine.{Call, reset, look, write, read, held, interrupt, lent}
+use Rattle.demands.specs.Table.{First, place, HighBits, NotAllowed, BadSize, NoKey, rules}
+use Rattle.demands.specs.Ours.{changing, asking, called, ours}
+use Rattle.demands.proofs.Numbers.{Decides, none, _then_, lines-first, refused, denied, itself, decide-eq, decide-ne, decide-lt}
+
+-- ---- samples
+-- a test that fails of a list fails at a place of it
+fails-at : (f : ℕ → Bool) (l : List ℕ) → all f l ≡ false → (k : ℕ) × ((k < length l) × (f (getD l k 0) ≡ false))
+unfolding all
+fails-at f [] e = true-false e
+fails-at f (x ∷ l) e = go (f x) refl (fails-at f l)
+  where
+    go : (b : Bool) → f x ≡ b → (all f l ≡ false → (k : ℕ) × ((k < length l) × (f (getD l k 0) ≡ false)))
+        → (k : ℕ) × ((k < suc (length l)) × (f (getD (x ∷ l) k 0) ≡ false))
+    go false g rest = (0, (omega arith, g))
+    go true g rest = let r = rest (rw g at e) in (suc (r .0), (omega (arith, r .1 .0), r .1 .1))
+
+all-at : (f : ℕ → Bool) (l : List ℕ) → all f l ≡ true → (k : ℕ) → k < length l → f (getD l k 0) ≡ true
+all-at f [] e k h = absurd (omega arith)
+all-at f (x ∷ l) e zero h = all-first f x l e
+all-at f (x ∷ l) e (suc k) h = all-at f l (all-rest f x l e) k (omega arith)
+
+one-of : (a b c : Bool) → not (a || b || c) ≡ false → (a ≡ true) ⊎ ((b ≡ true) ⊎ (c ≡ true))
+one-of true b c e = inl refl
+one-of false true c e = inr (inl refl)
+one-of false false true e = inr (inr refl)
+one-of false false false e = true-false e
+
+none-of : (a b c : Bool) → not (a || b || c) ≡ true → (a ≡ true) ⊎ ((b ≡ true) ⊎ (c ≡ true)) → ⊥
+none-of true b c e h = true-false (sym e)
+none-of false true c e h = true-false (sym e)
+none-of false false true e h = true-false (sym e)
+none-of false false false e (inl f) = true-false (sym f)
+none-of false false false e (inr (inl f)) = true-false (sym f)
+none-of false false false e (inr (inr f)) = true-false (sym f)
+
+-- "some sample has bit 13, 14 or 15 set"
+decide-high : (s : List ℕ) → Decides (not (all (λ x. not (high x)) s)) (HighBits s)
+unfolding high
+decide-high s =
+    refused (all (λ x. not (high x)) s)
+    (λ e. let r = fails-at (λ x. not (high x)) s e in (r .0, (r .1 .0, one-of (bit 13 (getD s (r .0) 0)) (bit 14 (getD s (r .0) 0)) (bit 15 (getD s (r .0) 0)) (r .1 .1))))
+    (λ e h. none-of (bit 13 (getD s (h .0) 0)) (bit 14 (getD s (h .0) 0)) (bit 15 (getD s (h .0) 0)) (all-at (λ x. not (high x)) s e (h .0) (h .1 .0)) (h .1 .1))
+
+-- ---- runs of addresses
+place-next : (a k : ℕ) → place (next a) k ≡ next (place a k)
+unfolding place
+place-next a zero = refl
+place-next a (suc k) = ap next (place-next a k)
+
+run-fails : (f : ℕ → Bool) (a n : ℕ) → all f (addresses a n) ≡ false → (k : ℕ) × ((k < n) × (f (place a k) ≡ false))
+unfolding addresses all place
+run-fails f a zero e = true-false e
+run-fails f a (suc n) e = go (f a) refl (run-fails f (next a) n)
+  where
+    go : (b : Bool) → f a ≡ b → (all f (addresses (next a) n) ≡ false → (k : ℕ) × ((k < n) × (f (place (next a) k) ≡ false)))
+        → (k : ℕ) × ((k < suc n) × (f (place a k) ≡ false))
+    go false g rest = (0, (omega arith, g))
+    go true g rest = let r = rest (rw g at e) in (suc (r .0), (omega (arith, r .1 .0), ap f (sym (place-next a (r .0))) ∙ r .1 .1))
+
+run-at : (f : ℕ → Bool) (a n : ℕ) → all f (addresses a n) ≡ true → (k : ℕ) → k < n → f (place a k) ≡ true
+unfolding addresses place
+run-at f a zero e k h = absurd (omega arith)
+run-at f a (suc n) e zero h = all-first f a (addresses (next a) n) e
+run-at f a (suc n) e (suc k) h = ap f (sym (place-next a k)) ∙ run-at f (next a) n (all-rest f a (addresses (next a) n) e) k (omega arith)
+
+-- "some address of the run is unknown, or can't be read or written as asked"
+decide-run : (way : Access) (a n : ℕ) → Decides (not (runAllowed way a n)) (NotAllowed way a n)
+unfolding runAllowed
+decide-run way a n =
+    let f : ℕ → Bool = λ b. allowed way (registerAt b) in
+    refused (runAllowed way a n) (run-fails f a n) (λ e h. true-false (sym (run-at f a n e (h .0) (h .1 .0)) ∙ h .1 .1))
+
+-- ---- bytes for KBDSIZE
+-- no other register counts as KBDSIZE
+others : (two six seven eight nine code evt rst : Bool) (n : ℕ)
+    → eqb 3 (address (cond two KBDBOUNCE (cond six KBDRIS (cond seven KBDMIS (cond eight KBDIC (cond nine KBDMSK (cond code (KBDCODE n) (cond evt EVTCODE (cond rst RSTINTCLR Unknown))))))))) ≡ false
+unfolding address
+others true six seven eight nine code evt rst n = refl
+others false true seven eight nine code evt rst n = refl
+others false false true eight nine code evt rst n = refl
+others false false false true nine code evt rst n = refl
+others false false false false true code evt rst n = refl
+others false false false false false true evt rst n = refl
+others false false false false false false true rst n = refl
+others false false false false false false false true n = refl
+others false false false false false false false false n = refl
+
+-- KBDSIZE is at 0x03 and nowhere else
+size-place : (a : ℕ) → (registerAt a is KBDSIZE) ≡ eqb a 3
+unfolding registerAt _is_ address
+size-place a = go (ℕ-discrete a 3)
+  where
+    go : Dec (a ≡ 3) → (registerAt a is KBDSIZE) ≡ eqb a 3
+    go (yes e) = rw e
+    go (no e) = rw (ne-eqb a 3 e) (others (eqb a 2) (eqb a 6) (eqb a 7) (eqb a 8) (eqb a 9) (leb 11 a && leb a 14) (eqb a 16) (eqb a 132) (a - 11))
+
+byte-fits : (a b : ℕ) → byteFits (registerAt a) b ≡ cond (eqb a 3) (acceptable b) true
+unfolding byteFits
+byte-fits a b = rw (size-place a)
+
+byte-fails : (a b : ℕ) → byteFits (registerAt a) b ≡ false → (a ≡ 3) × (acceptable b ≡ false)
+byte-fails a b e = go (eqb a 3) refl (sym (byte-fits a b) ∙ e)
+  where
+    go : (t : Bool) → eqb a 3 ≡ t → cond t (acceptable b) true ≡ false → (a ≡ 3) × (acceptable b ≡ false)
+    go true f g = (eqb-true a 3 f, g)
+    go false f g = true-false g
+
+byte-bad : (a b : ℕ) → a ≡ 3 → acceptable b ≡ false → byteFits (registerAt a) b ≡ false
+byte-bad a b e f = byte-fits a b ∙ rw (e, f)
+
+sizes-fail : (a : ℕ) (bs : List ℕ) → sizesFit a bs ≡ false → BadSize a bs
+unfolding sizesFit place
+sizes-fail a [] e = true-false e
+sizes-fail a (b ∷ bs) e = go (byteFits (registerAt a) b) refl (sizes-fail (next a) bs)
+  where
+    go : (t : Bool) → byteFits (registerAt a) b ≡ t → (sizesFit (next a) bs ≡ false → BadSize (next a) bs) → BadSize a (b ∷ bs)
+    go false g rest = (0, (omega arith, byte-fails a b g))
+    go true g rest = let r = rest (rw g at e) in (suc (r .0), (omega (arith, r .1 .0), (sym (place-next a (r .0)) ∙ r .1 .1 .0, r .1 .1 .1)))
+
+sizes-at : (a : ℕ) (bs : List ℕ) → sizesFit a bs ≡ true → BadSize a bs → ⊥
+unfolding sizesFit place
+sizes-at a [] e (k, (h, bad)) = omega arith
+sizes-at a (b ∷ bs) e (zero, (h, bad)) = true-false (sym (and-left (byteFits (registerAt a) b) (sizesFit (next a) bs) e) ∙ byte-bad a b (bad .0) (bad .1))
+sizes-at a (b ∷ bs) e (suc k, (h, bad)) = sizes-at (next a) bs (and-right (byteFits (registerAt a) b) (sizesFit (next a) bs) e) (k, (omega arith, (place-next a k ∙ bad .0, bad .1)))
+
+-- "a byte for KBDSIZE isn't acceptable"
+decide-sizes : (a : ℕ) (bs : List ℕ) → Decides (not (sizesFit a bs)) (BadSize a bs)
+decide-sizes a bs = refused (sizesFit a bs) (sizes-fail a bs) (sizes-at a bs)
+
+-- ---- keys
+key-none : (row col : ℕ) → isKey row col ≡ false → NoKey row col
+key-none row col e = go (decLe row 7) (decLe col 12)
+  where
+    go : Dec (row ≤ 7) → Dec (col ≤ 12) → NoKey row col
+    go (no r) d = inl (omega (arith, r))
+    go (yes r) (no c) = inr (omega (arith, c))
+    go (yes r) (yes c) = true-false (sym (key-yes row col r c) ∙ e)
+
+key-some : (row col : ℕ) → isKey row col ≡ true → NoKey row col → ⊥
+key-some row col e (inl h) = omega (arith, key-row row col e)
+key-some row col e (inr h) = omega (arith, key-col row col e)
+
+-- "row above 7 or column above 12"
+decide-key : (row col : ℕ) → Decides (not (isKey row col)) (NoKey row col)
+decide-key row col = refused (isKey row col) (key-none row col) (key-some row col)
+
+-- ---- every call
+module _ (m : Module) where
+  -- "What it can't do it declines with a number from our list"
+  pub numbers-exact : (c : Call) → First (rules ours m c) (called m c .number)
+  unfolding called changing asking resetCall lookCall writeCall readCall heldCall lineCall outcome answer lookNumber writeNumber readNumber heldNumber lineNumber lookLines heldLines sampleLines readLines writeLines accessLines rules First
+  numbers-exact reset = refl
+  numbers-exact (look s) = lines-first (denied (sound m) then decide-ne (length s) 8 then decide-high s then itself (strays m s) then none)
+  numbers-exact (write a bs) =
+      let n = length bs in
+      lines-first (denied (sound m) then decide-eq n 0 then decide-lt 32 n then decide-run Write a n then decide-sizes a bs then none)
+  numbers-exact (read a out) =
+      let n = length out in
+      lines-first (denied (sound m) then decide-eq n 0 then decide-lt 32 n then decide-run Read a n then none)
+  numbers-exact (held row col) = lines-first (denied (sound m) then decide-key row col then none)
+  numbers-exact interrupt = lines-first (denied (sound m) then none)
+
+  -- "and a declined call alters neither the module nor the caller's buffer"; "for a question the answer no"
+  pub declined-alters-nothing : (c : Call) → (called m c .number ≡ 0 → ⊥) → (called m c .next ≡ m) × ((called m c .buffer ≡ lent c) × (called m c .answer ≡ false))
+  unfolding called changing asking resetCall lookCall writeCall readCall heldCall lineCall outcome answer readBuffer lent
+  declined-alters-nothing reset h = absurd (h refl)
+  declined-alters-nothing (look s) h = (rw (ne-eqb (lookNumber m s) 0 h), (refl, refl))
+  declined-alters-nothing (write a bs) h = (rw (ne-eqb (writeNumber m a bs) 0 h), (refl, refl))
+  declined-alters-nothing (read a out) h = let d = ne-eqb (readNumber m a (length out)) 0 h in (rw d, (rw d, refl))
+  declined-alters-nothing (held row col) h = (refl, (refl, rw (ne-eqb (heldNumber m row col) 0 h)))
+  declined-alters-nothing interrupt h = (refl, (refl, rw (ne-eqb (lineNumber m) 0 h)))
+
+-- ---- rows 8 and 9, for ours
+-- "A state is sound when:", fact by fact
+pub unsound-means : (m : Module) → Decides (not (sound m)) (Sound m → ⊥)
+unsound-means m = refused (sound m) (λ e h. true-false (sym (facts-sound m h) ∙ e)) (λ e h. h (sound-facts m e))
+
+below-fails-at : (f : ℕ → Bool) (n : ℕ) → allBelow f n ≡ false → (k : ℕ) × ((k < n) × (f k ≡ false))
+unfolding allBelow
+below-fails-at f zero e = true-false e
+below-fails-at f (suc n) e = go (f n) refl (below-fails-at f n)
+  where
+    go : (b : Bool) → f n ≡ b → (allBelow f n ≡ false → (k : ℕ) × ((k < n) × (f k ≡ false))) → (k : ℕ) × ((k < suc n) × (f k ≡ false))
+    go false g rest = (n, (omega arith, g))
+    go true g rest = let r = rest (sym (and-true (allBelow f n)) ∙ rw g at e) in (r .0, (omega (arith, r .1 .0), r .1 .1))
+
+-- neither in the size nor without a change
+out-changed : (a b : Bool) → (a || not b) ≡ false → (a ≡ false) × (b ≡ true)
+out-changed true b e = true-false e
+out-changed false true e = (refl, refl)
+out-changed false false e = true-false e
+
+-- "a change falls on a key out of the size"
+pub astray-means : (m : Module) (s : List ℕ) → Decides (strays m s) ((k : ℕ) × ((k < 104) × ((keyIn (m .size) k ≡ false) × (contactAt m s k .changed ≡ true))))
+unfolding strays
+astray-means m s =
+    let f : ℕ → Bool = λ k. keyIn (m .size) k || not (contactAt m s k .changed) in
+    refused (allBelow f 104)
+    (λ e. let r = below-fails-at f 104 e in (r .0, (r .1 .0, out-changed (keyIn (m .size) (r .0)) (contactAt m s (r .0) .changed) (r .1 .1))))
+    (λ e h. true-false (sym (all-below f 104 e (h .0) (h .1 .0)) ∙ rw (h .1 .1 .0, h .1 .1 .1)))

@@ -1,0 +1,112 @@
+-- NEVER UNSOUND: the module that the sheet writes down is sound, and no change falls on a key out of the size.
+--
+--    bytes-fit, sizes-fit    what `fitting` says of the bytes written, as the sheet's laws ask for it
+--    out-shown          out of the size no key is held, and none has a run
+--    key-shown, codes-shown, rest-shown    what is asked of the keys, the codes that wait, and the unused places
+--    shown-sound        THE MODULE IS SOUND, where the bytes written fit
+--    no-strays-shown    number 9 is never given
+-- Assumes nothing.
+use Prim.Native.Nat.{ℕ, zero, suc, _-_, _<_}
+use mathlib.Core.Path.{_≡_, refl, ap, _∙_}
+use mathlib.Core.Bool.{Bool, true, false, not, _&&_, _||_}
+use mathlib.Core.List.{List, [], _∷_}
+use borrow.Author.Tests.{le-leb, eq-eqb}
+use lib.Dec.{leb, eqb}
+use lib.ListN.{length, getD, replicate}
+use lib.Seq.{drop-append-seam}
+use Rattle.words.specs.Words.{all}
+use Rattle.words.proofs.Laws.{and-left, and-right, and-both}
+use Rattle.words.proofs.Tables.{table-at}
+use Rattle.keys.specs.Keys.{keyIn, keyOf}
+use Rattle.registers.specs.declared.Register.{Register}
+use Rattle.sheet.specs.Sheet.{Past, looked, wrote, got, size, held, waiting, marks}
+use Rattle.sheet.proofs.Lists.{by-test}
+use Rattle.sheet.proofs.Facts.{waiting-most, never-all, mask-low}
+use Rattle.sheet.proofs.Sizes.{writes, sizeFits, size-ok, out-open, run-low, waiting-in}
+use Rattle.sheet.proofs.Sizes as sizes
+use Rattle.judge.specs.Lines.{byteFits}
+use Rattle.state.specs.Module.{queueOf}
+use Rattle.sound.specs.Sound.{keySound, codesSound, restUnused, sound, Sound}
+use Rattle.sound.proofs.Laws.{facts-sound}
+use Rattle.scan.specs.Scan.{strays}
+use Rattle.scan.proofs.Laws.{no-strays}
+use Rattle.demands.specs.Shown.{run, places, shown, fitting}
+use Rattle.demands.proofs.Bytes.{seen-all}
+use Rattle.demands.proofs.Answers.{held-shown, waiting-shown}
+
+-- ---- the bytes written
+module _ (f : Register → ℕ → Bool) (asked : (r : Register) (b : ℕ) → (leb b 0xFF && byteFits r b) ≡ true → f r b ≡ true) where
+  fits-writes : (past : Past) → fitting past ≡ true → writes f past ≡ true
+  unfolding fitting writes
+  fits-writes [] e = refl
+  fits-writes (looked s ∷ past) e = fits-writes past e
+  fits-writes (wrote r b ∷ past) e =
+      let fit = leb b 0xFF && byteFits r b in
+      and-both (f r b) (writes f past) (asked r b (and-left fit (fitting past) e)) (fits-writes past (and-right fit (fitting past) e))
+  fits-writes (got r ∷ past) e = fits-writes past e
+
+bytes-fit : (past : Past) → fitting past ≡ true → writes sizes.byteFits past ≡ true
+unfolding sizes.byteFits
+bytes-fit = fits-writes sizes.byteFits (λ r b e. and-left (leb b 0xFF) (byteFits r b) e)
+
+sizes-fit : (past : Past) → fitting past ≡ true → writes sizeFits past ≡ true
+unfolding byteFits sizeFits
+sizes-fit = fits-writes sizeFits (λ r b e. and-right (leb b 0xFF) (byteFits r b) e)
+
+-- ---- the keys
+run-shown : (past : Past) (k : ℕ) → k < 104 → getD (shown past .run) k 0 ≡ run k past
+unfolding shown
+run-shown past k h = table-at (λ k. run k past) 104 k 0 h
+
+-- "no key out of the size is held or has a run of samples remembered"
+out-shown : (past : Past) (k : ℕ) → k < 104 → keyIn (shown past .size) k ≡ false → (getD (shown past .held) k false ≡ false) × (getD (shown past .run) k 0 ≡ 0)
+unfolding shown run
+out-shown past k h e = let i = out-open past k e in (held-shown past k h ∙ i .0, run-shown past k h ∙ i .1)
+
+key-sound : (past : Past) (k : ℕ) → fitting past ≡ true → keySound (size past) k (held k past) (run k past) ≡ true
+unfolding keySound run
+key-sound past k f =
+    and-both _ _
+    (by-test (λ b. (b || (not (held k past) && eqb (run k past) 0)) ≡ true) (keyIn (size past) k) (λ e. refl)
+    (λ e. let i = out-open past k e in and-both _ _ (ap not (i .0)) (eq-eqb _ 0 (i .1))))
+    (le-leb _ 254 (run-low past k (bytes-fit past f)))
+
+key-shown : (past : Past) → fitting past ≡ true → (k : ℕ) → k < 104 → keySound (shown past .size) k (getD (shown past .held) k false) (getD (shown past .run) k 0) ≡ true
+unfolding shown
+key-shown past f k h = (λ i. keySound (size past) k (held-shown past k h i) (run-shown past k h i)) ∙ key-sound past k f
+
+-- ---- the queue
+codes-shown : (past : Past) → codesSound (shown past .size) (queueOf (shown past)) ≡ true
+unfolding codesSound shown
+codes-shown past = ap (all (λ c. keyIn (size past) (keyOf c))) (waiting-shown past) ∙ waiting-in past
+
+unused : (n : ℕ) → all (λ c. eqb c 0x7F) (replicate n 0x7F) ≡ true
+unfolding all
+unused zero = refl
+unused (suc n) = unused n
+
+rest-shown : (past : Past) → restUnused (queueOf (shown past)) ≡ true
+unfolding restUnused shown places
+rest-shown past =
+    let n = 15 - length (waiting past) in
+    ap (all (λ c. eqb c 0x7F)) (drop-append-seam (waiting past) (replicate n 0x7F)) ∙ unused n
+
+-- ---- all of it
+facts : (past : Past) → fitting past ≡ true → Sound (shown past)
+unfolding shown
+facts past f =
+    record {
+      size = size-ok past (sizes-fit past f);
+      keys = key-shown past f;
+      few = waiting-most past;
+      codes = codes-shown past;
+      rest = rest-shown past;
+      mask = mask-low past;
+      marks = seen-all (marks past) ∙ never-all past;
+    }
+
+pub shown-sound : (past : Past) → fitting past ≡ true → sound (shown past) ≡ true
+shown-sound past f = facts-sound (shown past) (facts past f)
+
+pub no-strays-shown : (past : Past) (s : List ℕ) → strays (shown past) s ≡ false
+no-strays-shown past s = no-strays (shown past) (out-shown past) s

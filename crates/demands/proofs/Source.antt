@@ -1,0 +1,60 @@
+-- OURS IS THE SOURCE: what the contract of each of the six functions in crates/calls/src/lib.rt allows is what the machine `ours` does.
+--
+--    reset-source, look-source, write-source, read-source, held-source, interrupt-source
+--
+-- Each Post is what the toolchain makes of a function's `ensures` lines, and the function is proved to meet it. x is the result,
+-- a the arguments, e the parameters at exit.
+-- Assumes nothing.
+use mathlib.Core.Path.{_≡_, ap}
+use mathlib.Core.List.{[]}
+use contract.Lifetimes.{Lfts}
+use denote.Ref.{now}
+use denote.Triple.Clauses.{AtExit}
+use borrow.Fn.Kinds.{Dens, endedOf}
+use Rattle.state.specs.declared.Module.{Module}
+use Rattle.calls.specs.declared.Done.{Done}
+use Rattle.calls.specs.declared.Answered.{Answered}
+use Rattle.calls.proofs.reset.Kinds as reset-kinds
+use Rattle.calls.proofs.reset.Reads as resets
+use Rattle.calls.proofs.look.Kinds as look-kinds
+use Rattle.calls.proofs.look.Reads as looks
+use Rattle.calls.proofs.write.Kinds as write-kinds
+use Rattle.calls.proofs.write.Reads as writes
+use Rattle.calls.proofs.read.Kinds as read-kinds
+use Rattle.calls.proofs.read.Reads as reads
+use Rattle.calls.proofs.held.Kinds as held-kinds
+use Rattle.calls.proofs.held.Reads as helds
+use Rattle.calls.proofs.interrupt.Kinds as interrupt-kinds
+use Rattle.calls.proofs.interrupt.Reads as interrupts
+use Rattle.demands.specs.Machine.{reset, look, write, read, held, interrupt}
+use Rattle.demands.specs.Ours.{changing, asking, called}
+
+pub reset-source : (κs : Lfts 0) (a : Dens κs reset-kinds.ps) (x : Done) (e : AtExit (endedOf 0 reset-kinds.ps reset-kinds.r) κs)
+    → resets.Post κs a x e → (m : Module) → changing x [] ≡ called m reset
+unfolding called
+reset-source κs a x e p m = ap (λ (d : Done). changing d []) p
+
+pub look-source : (κs : Lfts 1) (a : Dens κs look-kinds.ps) (x : Done) (e : AtExit (endedOf 1 look-kinds.ps look-kinds.r) κs)
+    → looks.Post κs a x e → changing x [] ≡ called (a .0) (look (now (a .1 .0)))
+unfolding called
+look-source κs a x e p = ap (λ (d : Done). changing d []) p
+
+pub write-source : (κs : Lfts 1) (a : Dens κs write-kinds.ps) (x : Done) (e : AtExit (endedOf 1 write-kinds.ps write-kinds.r) κs)
+    → writes.Post κs a x e → changing x [] ≡ called (a .0) (write (a .1 .0) (now (a .1 .1 .0)))
+unfolding called
+write-source κs a x e p = ap (λ (d : Done). changing d []) p
+
+pub read-source : (κs : Lfts 1) (a : Dens κs read-kinds.ps) (x : Done) (e : AtExit (endedOf 1 read-kinds.ps read-kinds.r) κs)
+    → reads.Post κs a x e → changing x (now (e .1 .1 .0)) ≡ called (a .0) (read (a .1 .0) (now (a .1 .1 .0)))
+unfolding called
+read-source κs a x e p = λ i. changing (p .0 i) (p .1 i)
+
+pub held-source : (κs : Lfts 0) (a : Dens κs held-kinds.ps) (x : Answered) (e : AtExit (endedOf 0 held-kinds.ps held-kinds.r) κs)
+    → helds.Post κs a x e → asking x ≡ called (a .0) (held (a .1 .0 .0) (a .1 .1 .0 .0))
+unfolding called
+held-source κs a x e p = ap asking p
+
+pub interrupt-source : (κs : Lfts 0) (a : Dens κs interrupt-kinds.ps) (x : Answered) (e : AtExit (endedOf 0 interrupt-kinds.ps interrupt-kinds.r) κs)
+    → interrupts.Post κs a x e → asking x ≡ called (a .0) interrupt
+unfolding called
+interrupt-source κs a x e p = ap asking p

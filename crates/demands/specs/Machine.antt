@@ -1,0 +1,127 @@
+-- CALLS AND MACHINES.
+--
+--    Call            the six calls as data
+--    Gives           what a call gives back
+--    Machine         any set of states with a start, and what each call does
+--    lent c          the buffer that is lent to a call
+--    after M cs      the state after calls, newest first, that begin after a reset
+--    done M cs       what has happened, for the sheet: the calls that were done, byte by byte
+--    fits c          the values of a call fit their types
+--    fetched M cs    the codes that done reads really put into callers' buffers since the restart
+--    seen M σ        the codes that a read of 15 bytes of EVTCODE would give now
+use Prim.Native.Nat.{ℕ, zero, suc}
+use mathlib.Core.Bool.{Bool, true, false}
+use mathlib.Core.List.{List, [], _∷_, _++_}
+use lib.ListN.{length, replicate}
+use lib.Dec.{eqb, ltb}
+use Rattle.words.specs.Words.{_if_, _else_, all}
+use Rattle.registers.specs.declared.Register.the-variants.{KBDSIZE, EVTCODE}
+use Rattle.registers.specs.Registers.{registerAt, _is_}
+use Rattle.registers.specs.Runs.{next}
+use Rattle.sheet.specs.Sheet.{Past, looked, wrote, got}
+use Rattle.sheet.specs.Ledger.{codeGot}
+
+-- "There are six calls: reset, look (one set of contact samples), write access, read access, and two questions
+-- (is this key held; is the interrupt line asserted)."
+pub data Call : Type 0 where
+  reset : Call
+  -- the samples
+  look : List ℕ → Call
+  -- the first address, and the bytes
+  write : ℕ → List ℕ → Call
+  -- the first address, and the buffer lent
+  read : ℕ → List ℕ → Call
+  -- row and column
+  held : ℕ → ℕ → Call
+  interrupt : Call
+
+pub record Gives (State : Type 0) : Type 0 where
+  pub number : ℕ
+  pub next : State
+  -- the buffer lent, as the call leaves it
+  pub buffer : List ℕ
+  -- a question's answer; no for any other call
+  pub answer : Bool
+
+pub record Machine : Type 1 where
+  pub State : Type 0
+  -- the state after reset
+  pub start : State
+  -- which states are sound
+  pub sound : State → Bool
+  -- does a look with these samples make a change fall on a key out of the size?
+  pub astray : State → List ℕ → Bool
+  pub does : State → Call → Gives State
+
+unfoldable pub lent : Call → List ℕ
+lent reset = []
+lent (look s) = []
+lent (write a bs) = []
+lent (read a out) = out
+lent (held row col) = []
+lent interrupt = []
+
+unfoldable pub after : (M : Machine) → List Call → M .State
+after M [] = M .start
+after M (c ∷ cs) = M .does (after M cs) c .next
+
+-- ---- what has happened
+
+-- "Bytes take effect one at a time, in order."
+unfoldable pub wrotes : ℕ → List ℕ → Past → Past
+wrotes a [] past = past
+wrotes a (b ∷ bs) past = wrotes (next a) bs (wrote (registerAt a) b ∷ past)
+
+unfoldable pub gots : ℕ → ℕ → Past → Past
+gots a zero past = past
+gots a (suc n) past = gots (next a) n (got (registerAt a) ∷ past)
+
+-- what a done call adds; a reset begins a new past
+unfoldable pub happened : Call → Past → Past
+happened reset past = []
+happened (look s) past = looked s ∷ past
+happened (write a bs) past = wrotes a bs past
+happened (read a out) past = gots a (length out) past
+happened (held row col) past = past
+happened interrupt past = past
+
+unfoldable pub done : (M : Machine) → List Call → Past
+done M [] = []
+done M (c ∷ cs) = happened c (done M cs) if eqb (M .does (after M cs) c .number) 0 else done M cs
+
+-- a byte is below 256; nothing else is asked of a call's values
+unfoldable pub fits : Call → Bool
+fits reset = true
+fits (look s) = true
+fits (write a bs) = all (λ b. ltb b 256) bs
+fits (read a out) = true
+fits (held row col) = true
+fits interrupt = true
+
+-- ---- what was fetched, and what still waits, as a caller sees it
+
+-- the codes among the bytes of a buffer that was filled from the address a on: those of EVTCODE, but for the empty mark
+unfoldable pub codesIn : ℕ → List ℕ → List ℕ
+codesIn a [] = []
+codesIn a (b ∷ bs) = (codeGot b if registerAt a is EVTCODE else []) ++ codesIn (next a) bs
+
+-- does a write cover KBDSIZE?
+unfoldable pub covers : ℕ → List ℕ → Bool
+covers a [] = false
+covers a (b ∷ bs) = true if registerAt a is KBDSIZE else covers (next a) bs
+
+-- what a done call makes of the codes fetched so far; the buffer is as the call left it
+unfoldable pub fetchedBy : Call → List ℕ → List ℕ → List ℕ
+fetchedBy reset buffer l = []
+fetchedBy (look s) buffer l = l
+fetchedBy (write a bs) buffer l = [] if covers a bs else l
+fetchedBy (read a out) buffer l = l ++ codesIn a buffer
+fetchedBy (held row col) buffer l = l
+fetchedBy interrupt buffer l = l
+
+unfoldable pub fetched : (M : Machine) → List Call → List ℕ
+fetched M [] = []
+fetched M (c ∷ cs) = fetchedBy c (M .does (after M cs) c .buffer) (fetched M cs) if eqb (M .does (after M cs) c .number) 0 else fetched M cs
+
+unfoldable pub seen : (M : Machine) → M .State → List ℕ
+seen M σ = codesIn 0x10 (M .does σ (read 0x10 (replicate 15 0)) .buffer)

@@ -1,0 +1,31 @@
+-- OUR SIX CALLS, as a machine.
+use Prim.Native.Nat.{ℕ}
+use mathlib.Core.Bool.{false}
+use mathlib.Core.List.{List, []}
+use lib.ListN.{length}
+use Rattle.state.specs.declared.Module.{Module}
+use Rattle.state.specs.Module.{fresh}
+use Rattle.sound.specs.Sound as soundness
+use Rattle.scan.specs.Scan.{strays}
+use Rattle.calls.specs.declared.Done.{Done}
+use Rattle.calls.specs.declared.Answered.{Answered}
+use Rattle.calls.specs.Calls.{resetCall, lookCall, writeCall, readCall, readBuffer, heldCall, lineCall}
+use Rattle.demands.specs.Machine.{Call, reset, look, write, read, held, interrupt, Gives, Machine}
+
+-- a call that lends no buffer, and a question
+unfoldable pub changing : Done → List ℕ → Gives Module
+changing d buffer = record { number = d .number; next = d .after; buffer = buffer; answer = false }
+
+unfoldable pub asking : Answered → Gives Module
+asking a = record { number = a .number; next = a .after; buffer = []; answer = a .yes }
+
+unfoldable pub called : Module → Call → Gives Module
+called m reset = changing resetCall []
+called m (look s) = changing (lookCall m s) []
+called m (write a bs) = changing (writeCall m a bs) []
+called m (read a out) = changing (readCall m a (length out)) (readBuffer m a out)
+called m (held row col) = asking (heldCall m row col)
+called m interrupt = asking (lineCall m)
+
+abbrev pub ours : Machine
+ours = record { State = Module; start = fresh; sound = soundness.sound; astray = strays; does = called }

@@ -1,0 +1,61 @@
+-- THE TABLE OF NUMBERS, as propositions in document 01's words. No statement judges a call by the functions that the module judges it by.
+--
+--    Rule, P ⇒ n         a row of the table: n, when P holds
+--    First rules n       "A number is given exactly when its line is true and no line before it in this order is."
+--    place a k           the address of place k of a run that begins at a
+--    rules M σ c         the rows for a call c that is made in the state σ, in document 01's order
+use Prim.Native.Nat.{ℕ, zero, suc, _<_}
+use mathlib.Core.Path.{_≡_}
+use mathlib.Core.Logic.{_⊎_}
+use mathlib.Core.Bool.{true, false}
+use mathlib.Core.List.{List, [], _∷_}
+use lib.ListN.{length, getD}
+use Rattle.words.specs.Words.{bit}
+use Rattle.keys.specs.Keys.{acceptable}
+use Rattle.registers.specs.declared.Access.{Access}
+use Rattle.registers.specs.declared.Access.the-variants.{Read, Write}
+use Rattle.registers.specs.Registers.{registerAt, allowed}
+use Rattle.registers.specs.Runs.{next}
+use Rattle.demands.specs.Machine.{Call, reset, look, write, read, held, interrupt, Machine}
+
+infix 70 _⇒_
+pub data Rule : Type 1 where
+  _⇒_ : Type 0 → ℕ → Rule
+
+unfoldable pub First : List Rule → ℕ → Type 0
+First [] n = n ≡ 0
+First ((P ⇒ k) ∷ rules) n = (P × (n ≡ k)) ⊎ ((P → ⊥) × First rules n)
+
+-- "The address rises by one per byte, except at 0x10, where it stays. It doesn't wrap after 0xFF: there is no address 0x100."
+unfoldable pub place : ℕ → ℕ → ℕ
+place a zero = a
+place a (suc k) = next (place a k)
+
+-- "list isn't eight samples"
+abbrev pub NotEight : List ℕ → Type 0
+NotEight s = length s ≡ 8 → ⊥
+
+-- "some sample has bit 13, 14 or 15 set"
+abbrev pub HighBits : List ℕ → Type 0
+HighBits s = (k : ℕ) × ((k < length s) × ((bit 13 (getD s k 0) ≡ true) ⊎ ((bit 14 (getD s k 0) ≡ true) ⊎ (bit 15 (getD s k 0) ≡ true))))
+
+-- "some address of the run is unknown, or can't be read or written as asked"
+abbrev pub NotAllowed : Access → ℕ → ℕ → Type 0
+NotAllowed way a n = (k : ℕ) × ((k < n) × (allowed way (registerAt (place a k)) ≡ false))
+
+-- "a byte for KBDSIZE isn't acceptable"
+abbrev pub BadSize : ℕ → List ℕ → Type 0
+BadSize a bs = (k : ℕ) × ((k < length bs) × ((place a k ≡ 0x03) × (acceptable (getD bs k 0) ≡ false)))
+
+-- "row above 7 or column above 12"
+abbrev pub NoKey : ℕ → ℕ → Type 0
+NoKey row col = (7 < row) ⊎ (12 < col)
+
+-- "Order: 8; then 1, 2, 9 for a look; 3, 4, 5, 6 for an access; 7 for the held question."
+unfoldable pub rules : (M : Machine) → M .State → Call → List Rule
+rules M σ reset = []
+rules M σ (look s) = (M .sound σ ≡ false) ⇒ 8 ∷ NotEight s ⇒ 1 ∷ HighBits s ⇒ 2 ∷ (M .astray σ s ≡ true) ⇒ 9 ∷ []
+rules M σ (write a bs) = (M .sound σ ≡ false) ⇒ 8 ∷ (length bs ≡ 0) ⇒ 3 ∷ (32 < length bs) ⇒ 4 ∷ NotAllowed Write a (length bs) ⇒ 5 ∷ BadSize a bs ⇒ 6 ∷ []
+rules M σ (read a out) = (M .sound σ ≡ false) ⇒ 8 ∷ (length out ≡ 0) ⇒ 3 ∷ (32 < length out) ⇒ 4 ∷ NotAllowed Read a (length out) ⇒ 5 ∷ []
+rules M σ (held row col) = (M .sound σ ≡ false) ⇒ 8 ∷ NoKey row col ⇒ 7 ∷ []
+rules M σ interrupt = (M .sound σ ≡ false) ⇒ 8 ∷ []

@@ -1,0 +1,1 @@
+// The demands. There is no code here.
