@@ -5,13 +5,13 @@ use keys::Col;
 use keys::Row;
 use state::Module;
 ghost use mathlib.Core.Path.{_≡_};
-ghost use lib.ListN.{length};
-ghost use Rattle.calls.specs.Calls.{resetCall, lookCall, writeCall, readCall, readBuffer, heldCall, lineCall};
+ghost use Rattle.calls.specs.Calls.{resetCall, heldCall, lineCall};
+ghost use Rattle.panel.specs.Lent.{LookLent, WriteLent, ReadLent};
 
 // One look; the module is altered where it is.
 #[no_mangle]
 pub extern "C" fn panel_look(m: &mut Module, samples: &[u16]) -> u8
-    ensures { λ r. ⌜ (r ≡ lookCall (now (m .entry)) (now (samples .entry)) .number) × (now (m .exit) ≡ lookCall (now (m .entry)) (now (samples .entry)) .after) ⌝ }
+    ensures { λ r. ⌜ LookLent (now (m .entry)) (now (samples .entry)) r (now (m .exit)) ⌝ }
 {
     let r = calls::look(*m, samples);
     *m = r.after;
@@ -21,7 +21,7 @@ pub extern "C" fn panel_look(m: &mut Module, samples: &[u16]) -> u8
 // A write access; the module is altered where it is.
 #[no_mangle]
 pub extern "C" fn panel_write(m: &mut Module, first: u8, bytes: &[u8]) -> u8
-    ensures { λ r. ⌜ (r ≡ writeCall (now (m .entry)) first (now (bytes .entry)) .number) × (now (m .exit) ≡ writeCall (now (m .entry)) first (now (bytes .entry)) .after) ⌝ }
+    ensures { λ r. ⌜ WriteLent (now (m .entry)) first (now (bytes .entry)) r (now (m .exit)) ⌝ }
 {
     let r = calls::write(*m, first, bytes);
     *m = r.after;
@@ -31,7 +31,7 @@ pub extern "C" fn panel_write(m: &mut Module, first: u8, bytes: &[u8]) -> u8
 // A read access; the module is altered where it is, and the caller's buffer is filled.
 #[no_mangle]
 pub extern "C" fn panel_read(m: &mut Module, first: u8, out: &mut [u8]) -> u8
-    ensures { λ r. ⌜ (r ≡ readCall (now (m .entry)) first (length (now (out .entry))) .number) × (now (m .exit) ≡ readCall (now (m .entry)) first (length (now (out .entry))) .after) × (now (out .exit) ≡ readBuffer (now (m .entry)) first (now (out .entry))) ⌝ }
+    ensures { λ r. ⌜ ReadLent (now (m .entry)) first (now (out .entry)) r (now (m .exit)) (now (out .exit)) ⌝ }
 {
     let r = calls::read(*m, first, out);
     *m = r.after;

@@ -1,0 +1,23 @@
+-- What the three lent forms promise: the number and what everything lent holds when the call returns.
+--
+--    LookLent m s number after             a look with samples s, lent the module m
+--    WriteLent m a bs number after         a write of the bytes bs at the address a
+--    ReadLent m a out number after bytes   a read at the address a into the buffer out, which then holds these bytes
+--
+-- The contracts in src/ are these three lines, and proofs/Determined.antt says that each allows one outcome only.
+use Prim.Native.Nat.{ℕ}
+use mathlib.Core.Path.{_≡_}
+use mathlib.Core.List.{List}
+use lib.ListN.{length}
+use Rattle.state.specs.declared.Module.{Module}
+use Rattle.calls.specs.Calls.{lookCall, writeCall, readCall, readBuffer}
+
+abbrev pub LookLent : Module → List ℕ → ℕ → Module → Type 0
+LookLent m s number after = (number ≡ lookCall m s .number) × (after ≡ lookCall m s .after)
+
+abbrev pub WriteLent : Module → ℕ → List ℕ → ℕ → Module → Type 0
+WriteLent m a bs number after = (number ≡ writeCall m a bs .number) × (after ≡ writeCall m a bs .after)
+
+abbrev pub ReadLent : Module → ℕ → List ℕ → ℕ → Module → List ℕ → Type 0
+ReadLent m a out number after bytes =
+    (number ≡ readCall m a (length out) .number) × (after ≡ readCall m a (length out) .after) × (bytes ≡ readBuffer m a out)
