@@ -1,0 +1,22 @@
+-- `page::digit` meets its contract: it puts the digit's glyph.
+-- Assumes nothing.
+use mathlib.Core.Path.{ap, _∙_}
+use Rattle.console.specs.Pages as is
+use borrow.Author.Needs.{needs}
+use Rattle.console.proofs.page.digit.Statement.{statement}
+use Rattle.console.proofs.page.digit.Tie as tie
+
+glyph-requires : tie.Need-glyph-requires
+glyph-requires c κs = search needs
+
+put-requires : tie.Need-put-requires
+put-requires c κs = search needs
+
+same-length : tie.Need-same-length
+same-length c = search needs
+
+returns : tie.Need-returns
+returns c = c .before .before .put .ensures ∙ ap (is.put _) (c .before .before .before .glyph .ensures)
+
+pub digit-spec : {M : Type 1} → statement M
+digit-spec = tie.close (tie.spec glyph-requires put-requires same-length returns)

@@ -1,0 +1,4 @@
+pub mod Pages
+pub mod Line
+pub mod Digits
+pub mod Commands

@@ -1,0 +1,219 @@
+//! The same script to another console and to the second module, and where they first differ.
+//!
+//! A difference is shown twice: where it came up, and at the end of a script cut down to what
+//! leads to it.
+
+use crate::console::Console;
+use crate::planted::Planted;
+use crate::script::Line;
+use std::ffi::OsString;
+use std::io::{self, Write};
+use std::process::{Command, Stdio};
+use std::thread;
+
+/// The first line that is answered differently, and both answers.
+#[derive(Debug)]
+pub struct Difference {
+    pub line: usize,
+    pub ours: Line,
+    pub theirs: Line,
+}
+
+/// What stands for an answer that is not there.
+const MISSING: &[u8] = b"(no answer)";
+
+/// How much is shown of a very long line.
+const SHOWN: usize = 1500;
+
+/// An answer as it is compared: a `?` answer only up to the `?`.
+fn comparable(answer: &[u8]) -> &[u8] {
+    if answer.starts_with(b"?") {
+        &answer[..1]
+    } else {
+        answer
+    }
+}
+
+/// The second module's answers, each with the place of the line it answers.
+fn our_answers(script: &[Line]) -> Vec<(usize, Line)> {
+    let mut console = Console::new(None);
+    let answers = script.iter().map(|line| console.answer(line));
+    let with_places = answers.enumerate();
+    with_places.filter_map(|(place, answer)| Some((place, answer?.into_bytes()))).collect()
+}
+
+/// Where another console's answers to a script first differ from ours.
+pub fn difference(script: &[Line], theirs: &[Line]) -> Option<Difference> {
+    let ours = our_answers(script);
+    for place in 0..ours.len().max(theirs.len()) {
+        let end = (script.len().saturating_sub(1), MISSING.to_vec());
+        let (line, our) = ours.get(place).cloned().unwrap_or(end);
+        let their = theirs.get(place).cloned().unwrap_or_else(|| MISSING.to_vec());
+        if comparable(&our) != comparable(&their) {
+            return Some(Difference { line, ours: our, theirs: their });
+        }
+    }
+    None
+}
+
+/// Where a module with a planted error first answers a script differently.
+pub fn planted_difference(script: &[Line], planted: Planted) -> Option<Difference> {
+    let (mut right, mut wrong) = (Console::new(None), Console::new(Some(planted)));
+    for (line, text) in script.iter().enumerate() {
+        let (ours, theirs) = (right.answer(text), wrong.answer(text));
+        if ours != theirs {
+            return Some(Difference {
+                line,
+                ours: ours.unwrap_or_default().into_bytes(),
+                theirs: theirs.unwrap_or_default().into_bytes(),
+            });
+        }
+    }
+    None
+}
+
+/// Gives a console program the whole script and takes its whole output.
+pub fn run_program(program: &[OsString], script: &[Line]) -> io::Result<Vec<Line>> {
+    let mut child = Command::new(&program[0])
+        .args(&program[1..])
+        .stdin(Stdio::piped())
+        .stdout(Stdio::piped())
+        .spawn()?;
+    let mut input = Line::new();
+    for line in script {
+        input.extend_from_slice(line);
+        input.push(b'\n');
+    }
+    let pipe = child.stdin.take();
+    // The answers must be read while the script is written, or both sides could wait for ever.
+    // A program that stops reading early shows by its answers.
+    let writer = thread::spawn(move || pipe.map(|mut pipe| pipe.write_all(&input)));
+    let output = child.wait_with_output()?.stdout;
+    let _ = writer.join();
+    let mut answers: Vec<Line> = output.split(|byte| *byte == b'\n').map(Line::from).collect();
+    if answers.last().map_or(false, Line::is_empty) {
+        answers.pop();
+    }
+    Ok(answers)
+}
+
+/// Tells where the answers to a script first differ, if they do.
+pub type Differs<'a> = dyn FnMut(&[Line]) -> Option<usize> + 'a;
+
+/// Cuts a script down to a short one that still leads to a difference.
+pub fn cut_down(script: &[Line], differs: &mut Differs) -> Vec<Line> {
+    let mut kept = script.to_vec();
+    keep_if(&mut kept, script.to_vec(), differs);
+    let mut chunk = kept.len();
+    loop {
+        chunk = (chunk / 2).max(1);
+        let dropped = drop_chunks(&mut kept, chunk, differs);
+        if chunk == 1 && !dropped && !quieten(&mut kept, differs) {
+            return kept;
+        }
+    }
+}
+
+/// Takes the shorter or plainer script, up to its difference, if it has one.
+fn keep_if(kept: &mut Vec<Line>, mut candidate: Vec<Line>, differs: &mut Differs) -> bool {
+    match differs(&candidate) {
+        Some(line) => {
+            candidate.truncate(line + 1);
+            *kept = candidate;
+            true
+        }
+        None => false,
+    }
+}
+
+/// Drops every stretch of `chunk` lines that is not needed, from the end on.
+fn drop_chunks(kept: &mut Vec<Line>, chunk: usize, differs: &mut Differs) -> bool {
+    let before = kept.len();
+    let mut end = kept.len();
+    while end > 0 {
+        let start = end.saturating_sub(chunk);
+        let mut candidate = kept.clone();
+        candidate.drain(start..end);
+        keep_if(kept, candidate, differs);
+        end = start.min(kept.len());
+    }
+    kept.len() < before
+}
+
+/// Opens the contacts that are not needed, whole rows first.
+fn quieten(kept: &mut Vec<Line>, differs: &mut Differs) -> bool {
+    let mut changed = false;
+    let masks = std::iter::once(0).chain((0..16).map(|bit| !(1 << bit)));
+    for mask in masks.collect::<Vec<u16>>() {
+        let mut place = 0;
+        while place < 8 * kept.len() {
+            let (line, row) = (place / 8, place % 8);
+            if let Some(quieter) = with_row_masked(&kept[line], row, mask) {
+                let mut candidate = kept.clone();
+                candidate[line] = quieter;
+                changed |= keep_if(kept, candidate, differs);
+            }
+            place += 1;
+        }
+    }
+    changed
+}
+
+/// A look of eight samples with fewer closed contacts in one row, if there are fewer then.
+fn with_row_masked(line: &[u8], row: usize, mask: u16) -> Option<Line> {
+    let mut words = std::str::from_utf8(line).ok()?.split_whitespace();
+    let is_look = words.next() == Some("look");
+    let samples: Result<Vec<u16>, _> = words.map(|word| u16::from_str_radix(word, 16)).collect();
+    let mut samples = samples.ok()?;
+    if !is_look || samples.len() != 8 || samples[row] & mask == samples[row] {
+        return None;
+    }
+    samples[row] &= mask;
+    let words: Vec<String> = samples.iter().map(|sample| format!("{sample:04X}")).collect();
+    Some(format!("look {}", words.join(" ")).into_bytes())
+}
+
+/// Compares a program with the second module on a script. Says whether they are the same.
+pub fn compare(seed: u64, script: &[Line], program: &[OsString]) -> io::Result<bool> {
+    let found = match difference(script, &run_program(program, script)?) {
+        Some(found) => found,
+        None => {
+            println!("same: seed {seed}, {} lines", script.len());
+            return Ok(true);
+        }
+    };
+    println!("different: seed {seed}, line {} of {}", found.line + 1, script.len());
+    show(script, &found)?;
+    let mut differs = |lines: &[Line]| {
+        let theirs = run_program(program, lines).ok()?;
+        difference(lines, &theirs).map(|found| found.line)
+    };
+    let short = cut_down(script, &mut differs);
+    println!("cut down to {} lines:", short.len());
+    for line in &short {
+        show_line("", line)?;
+    }
+    if let Some(found) = difference(&short, &run_program(program, &short)?) {
+        show(&short, &found)?;
+    }
+    Ok(false)
+}
+
+/// Shows the command that is answered differently and both answers.
+fn show(script: &[Line], found: &Difference) -> io::Result<()> {
+    let command = script.get(found.line).map_or("(none)".as_bytes(), Line::as_slice);
+    show_line("command:       ", command)?;
+    show_line("second module: ", &found.ours)?;
+    show_line("the program:   ", &found.theirs)
+}
+
+/// Shows a line byte for byte, unless it is very long.
+fn show_line(name: &str, line: &[u8]) -> io::Result<()> {
+    let mut out = io::stdout();
+    out.write_all(name.as_bytes())?;
+    out.write_all(&line[..line.len().min(SHOWN)])?;
+    if line.len() > SHOWN {
+        write!(out, " .. ({} bytes)", line.len())?;
+    }
+    out.write_all(b"\n")
+}

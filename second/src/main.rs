@@ -1,0 +1,117 @@
+//! The second module as a program.
+//!
+//! `second`                                    speaks the console's language
+//! `second --planted NAME`                     the same, with a planted error
+//! `second planted`                            lists the planted errors
+//! `second script SEED LINES`                  prints a random script
+//! `second compare SEED LINES PROGRAM [WORDS]` compares a console program with the second module
+//!
+//! `compare` ends with 0 if the answers are the same, with 1 if not. Words that make no sense
+//! end with 2.
+
+use second::compare::compare;
+use second::console::Console;
+use second::planted::{Planted, ALL};
+use second::script::script;
+use std::ffi::OsString;
+use std::io::{self, Read, Write};
+use std::process::exit;
+
+const USAGE: &str = "usage: second [--planted NAME]
+       second planted
+       second script SEED LINES
+       second compare SEED LINES PROGRAM [WORDS..]";
+
+/// Does what the words say.
+fn main() {
+    let words: Vec<OsString> = std::env::args_os().skip(1).collect();
+    let texts: Vec<String> = words.iter().map(|word| word.to_string_lossy().into()).collect();
+    let texts: Vec<&str> = texts.iter().map(String::as_str).collect();
+    match texts.as_slice() {
+        [] => ignore_broken_pipe(speak(None)),
+        ["--planted", name] => match Planted::named(name) {
+            Some(planted) => ignore_broken_pipe(speak(Some(planted))),
+            None => usage("no planted error has this name"),
+        },
+        ["planted"] => ignore_broken_pipe(list_planted()),
+        ["script", seed, lines] => ignore_broken_pipe(print_script(number(seed), number(lines))),
+        ["compare", seed, lines, _, ..] => run_compare(number(seed), number(lines), &words[3..]),
+        _ => usage("these words make no sense"),
+    }
+}
+
+/// Ends with what is wrong and how it is right.
+fn usage(wrong: &str) -> ! {
+    eprintln!("{wrong}\n{USAGE}");
+    exit(2)
+}
+
+/// A seed or a number of lines.
+fn number(word: &str) -> u64 {
+    match word.parse() {
+        Ok(number) => number,
+        Err(_) => usage("SEED and LINES are decimal numbers"),
+    }
+}
+
+/// A reader that stops early, such as `head`, is no error.
+fn ignore_broken_pipe(result: io::Result<()>) {
+    match result {
+        Err(error) if error.kind() != io::ErrorKind::BrokenPipe => {
+            eprintln!("{error}");
+            exit(1)
+        }
+        _ => {}
+    }
+}
+
+/// Answers every complete line that has arrived before it waits for more.
+fn speak(planted: Option<Planted>) -> io::Result<()> {
+    let (mut input, mut output) = (io::stdin().lock(), io::stdout().lock());
+    let mut console = Console::new(planted);
+    let mut piece = vec![0; 65_536];
+    loop {
+        let mut answers = Vec::new();
+        let length = match input.read(&mut piece) {
+            Err(error) if error.kind() == io::ErrorKind::Interrupted => continue,
+            result => result?,
+        };
+        if length == 0 {
+            console.finish(&mut answers);
+        } else {
+            console.feed(&piece[..length], &mut answers);
+        }
+        output.write_all(&answers)?;
+        output.flush()?;
+        if length == 0 {
+            return Ok(());
+        }
+    }
+}
+
+/// Lists the names of the planted errors.
+fn list_planted() -> io::Result<()> {
+    let mut output = io::stdout().lock();
+    for (_, name) in ALL {
+        writeln!(output, "{name}")?;
+    }
+    Ok(())
+}
+
+/// Prints a random script.
+fn print_script(seed: u64, lines: u64) -> io::Result<()> {
+    let mut output = io::BufWriter::new(io::stdout().lock());
+    for line in script(seed, lines as usize) {
+        output.write_all(&line)?;
+        output.write_all(b"\n")?;
+    }
+    output.flush()
+}
+
+/// Compares a program with the second module and ends.
+fn run_compare(seed: u64, lines: u64, program: &[OsString]) {
+    match compare(seed, &script(seed, lines as usize), program) {
+        Ok(same) => exit(if same { 0 } else { 1 }),
+        Err(error) => usage(&format!("{}: {error}", program[0].to_string_lossy())),
+    }
+}

@@ -1,0 +1,53 @@
+//! How answers are compared and scripts are cut down.
+
+use second::compare::{cut_down, difference};
+use second::script::Line;
+
+/// Lines from texts.
+fn lines(texts: &[&str]) -> Vec<Line> {
+    texts.iter().map(|text| text.as_bytes().to_vec()).collect()
+}
+
+/// The line of the first difference.
+fn differs_at(script: &[&str], theirs: &[&str]) -> Option<usize> {
+    difference(&lines(script), &lines(theirs)).map(|found| found.line)
+}
+
+#[test]
+fn the_words_after_a_question_mark_do_not_count() {
+    let script = ["foo", "irq"];
+    assert_eq!(differs_at(&script, &["? unknown command", "0 yes"]), None);
+    assert_eq!(differs_at(&script, &["? what is foo", "0 yes"]), None);
+    assert_eq!(differs_at(&script, &["?", "0 yes"]), None);
+    assert_eq!(differs_at(&script, &["0", "0 yes"]), Some(0));
+    assert_eq!(differs_at(&script, &["foo?", "0 yes"]), Some(0));
+    assert_eq!(differs_at(&script, &["?", "? yes"]), Some(1));
+}
+
+#[test]
+fn answers_that_are_missing_or_too_many() {
+    let script = ["# comment", "irq", "", "read 10 1"];
+    assert_eq!(differs_at(&script, &["0 yes", "0 7F"]), None);
+    assert_eq!(differs_at(&script, &["0 yes", "0 7f"]), Some(3));
+    assert_eq!(differs_at(&script, &["0 yes"]), Some(3));
+    assert_eq!(differs_at(&script, &[]), Some(1));
+    assert_eq!(differs_at(&script, &["0 yes", "0 7F", "0"]), Some(3));
+    assert_eq!(differs_at(&[], &[]), None);
+    assert_eq!(differs_at(&[], &["0"]), Some(0));
+}
+
+#[test]
+fn only_what_leads_to_the_difference_is_kept() {
+    // A stand-in that goes wrong at a line `c` after a line `a` and a look with row 2 column 0.
+    let mut differs = |script: &[Line]| {
+        let key = |line: &Line| line.starts_with(b"look 0000 0000 0001");
+        let a = script.iter().position(|line| line == b"a")?;
+        let look = a + script[a..].iter().position(key)?;
+        Some(look + script[look..].iter().position(|line| line == b"c")?)
+    };
+    let mut script = lines(&["b", "a", "b", "b", "a"]);
+    script.extend(lines(&["look 0000 0000 0001 0FFF 1FFF 0000 0000 0000"]));
+    script.extend(lines(&["b", "b", "c", "b", "c", "a"]));
+    let expected = ["a", "look 0000 0000 0001 0000 0000 0000 0000 0000", "c"];
+    assert_eq!(cut_down(&script, &mut differs), lines(&expected));
+}

@@ -1,0 +1,242 @@
+//! The console's language: words, numbers, lines and what is wrong with them.
+
+use crate::{repeated, session};
+use second::console::{Console, LONGEST};
+
+/// The whole output for a whole input, given in pieces of some length.
+fn output_in_pieces(input: &[u8], length: usize) -> String {
+    let (mut console, mut output) = (Console::new(None), Vec::new());
+    for piece in input.chunks(length) {
+        console.feed(piece, &mut output);
+    }
+    console.finish(&mut output);
+    String::from_utf8(output).unwrap()
+}
+
+/// The whole output for a whole input, which is the same in pieces of any length.
+fn output(input: &[u8]) -> String {
+    let whole = output_in_pieces(input, input.len().max(1));
+    for length in [1, 2, 3, 7, 64, 4096] {
+        assert_eq!(output_in_pieces(input, length), whole);
+    }
+    whole
+}
+
+/// Whether a line gets a `?` answer.
+fn refused(line: &[u8]) -> bool {
+    let answer = Console::new(None).answer(line).unwrap();
+    answer.starts_with("? ") && answer.len() > 2 && !answer.contains('\n')
+}
+
+#[test]
+fn numbers_by_their_value() {
+    session(
+        "
+        write 002 0000000000000000000000000000000001 -> 0
+        read 2 1 -> 0 01
+        write 02 fF -> 0
+        read 0000000000000000000000000000000000000000002 000000000000000000000000001 -> 0 FF
+        write 02 1 8c -> 0
+        look 0001fff 0 00 000 0000 00000 000000 0 -> 0
+        read 0b 4 -> 0 80 81 82 83
+        held 00000000000000000000000000 00000000000000000000000012 -> 0 yes
+        held 007 012 -> 0 no
+        held 255 255 -> 7 no
+        read 10 1024 -> 4
+        read FF 1 -> 5
+        look FFFF 0 0 0 0 0 0 0 -> 2
+        ",
+    );
+}
+
+#[test]
+fn numbers_that_are_too_large() {
+    for line in [
+        "read 100 1",
+        "read 10 1025",
+        "read 10 4294967297",
+        "read 10 18446744073709551617",
+        "read 10 340282366920938463463374607431768211457",
+        "read 10000000000000010 1",
+        "write 100",
+        "write 02 100",
+        "write 02 01 00000000000000000000122",
+        "write 84 10000000000000001",
+        "held 256 0",
+        "held 0 256",
+        "held 4294967296 0",
+        "held 0 18446744073709551616",
+        "look 10000 0 0 0 0 0 0 0",
+        "look 0 0 0 0 0 0 0 10000000000000000",
+    ] {
+        assert!(refused(line.as_bytes()), "{line}");
+    }
+}
+
+#[test]
+fn digits_that_are_none() {
+    for line in [
+        "read 1G 1",
+        "read 10 A",
+        "read 10 -1",
+        "read 10 +1",
+        "read 10 1.",
+        "read 0x10 1",
+        "read 10 1_0",
+        "write 02 g",
+        "write g",
+        "write 02 0x1",
+        "write 02 -1",
+        "held A 0",
+        "held 0 c",
+        "held 0 -0",
+        "held +1 0",
+        "look g",
+        "look 0 0 0 0 0 0 0 0 g",
+        "look 0,0",
+    ] {
+        assert!(refused(line.as_bytes()), "{line}");
+    }
+}
+
+#[test]
+fn words_too_many_and_too_few() {
+    for line in [
+        "reset 0",
+        "irq 0",
+        "irq # asked",
+        "read",
+        "read 10",
+        "read 10 1 1",
+        "write",
+        "held",
+        "held 1",
+        "held 1 1 1",
+        "show all",
+        "help me",
+    ] {
+        assert!(refused(line.as_bytes()), "{line}");
+    }
+}
+
+#[test]
+fn unknown_words() {
+    for line in ["foo", "RESET", "Irq", "LOOK 0", "look0", "res", "resets", "?", ".", "0", "irq;"] {
+        assert!(refused(line.as_bytes()), "{line}");
+    }
+}
+
+#[test]
+fn a_refused_line_does_nothing() {
+    session(
+        "
+        write 02 01 -> 0
+        look 1 0 0 0 0 0 0 0 -> 0
+        read 10 1 1 -> ? too many words
+        read 10 1G -> ? not a digit
+        write 02 05 100 -> ? number too large
+        write 03 22 x -> ? not a digit
+        look 0 0 0 0 0 0 0 10000 -> ? number too large
+        reset now -> ? too many words
+        held 0 0 -> 0 yes
+        read 02 2 -> 0 01 22
+        read 10 2 -> 0 00 7F
+        ",
+    );
+}
+
+#[test]
+fn lists_of_any_length() {
+    session(&format!(
+        "
+        look -> 1
+        write 02 -> 3
+        write FF -> 3
+        {} -> 1
+        {} -> 4
+        ",
+        repeated("look", "0", 8000),
+        repeated("write 02", "0", 8000),
+    ));
+}
+
+#[test]
+fn bytes_that_are_no_text() {
+    let lines: [&[u8]; 10] = [
+        b"\xFF",
+        b"\0",
+        b"irq\0",
+        b"irq\xC3\xA9",
+        b"\x0Birq",
+        b"irq\x0C",
+        b"\rirq",
+        b"irq\r\r",
+        b"read 10 \xD9\xA1",
+        b"look \xFF\xFE",
+    ];
+    for line in lines {
+        assert!(refused(line), "{line:?}");
+    }
+}
+
+#[test]
+fn blank_lines_and_comments_give_no_answer() {
+    let input = b"\n\r\n \n\t\n \t \r\n#\n# irq\n#irq\r\n  # irq\n\t#irq\n# \xFF\0\nirq\n";
+    assert_eq!(output(input), "0 yes\n");
+}
+
+#[test]
+fn blanks_tabs_and_carriage_returns() {
+    let input = b"\tirq\nirq \t\nirq\r\n \tread\t\t10 \t 2\t \r\n  held 0\t0\r\n";
+    assert_eq!(output(input), "0 yes\n0 yes\n0 yes\n0 7F 7F\n0 no\n");
+}
+
+#[test]
+fn a_final_line_without_a_newline() {
+    assert_eq!(output(b"irq\nread 10 1"), "0 yes\n0 7F\n");
+    assert_eq!(output(b"irq\r"), "0 yes\n");
+    assert_eq!(output(b"# irq"), "");
+    assert_eq!(output(b" "), "");
+    assert_eq!(output(b""), "");
+    assert_eq!(output(b"\n"), "");
+}
+
+#[test]
+fn show_and_help_have_no_counterpart() {
+    assert_eq!(output(b"show\nhelp\nirq\n"), ".\n.\n0 yes\n");
+}
+
+#[test]
+fn the_longest_line() {
+    let padded = |text: &str, fill: &str, length: usize| {
+        let mut line = text.to_string();
+        while line.len() < length {
+            line.push_str(fill);
+        }
+        line.truncate(length);
+        line
+    };
+    for (text, fill, whole) in
+        [("irq", " ", "0 yes\n"), ("# irq", "x", ""), ("", "\t", ""), ("look", " 0", "1\n")]
+    {
+        let (fits, over) = (padded(text, fill, LONGEST), padded(text, fill, LONGEST + 1));
+        assert_eq!(output(format!("{fits}\nirq\n").as_bytes()), format!("{whole}0 yes\n"));
+        assert_eq!(output(fits.as_bytes()), whole);
+        assert_eq!(output(format!("{over}\nirq\n").as_bytes()), "? line too long\n0 yes\n");
+        assert_eq!(output(over.as_bytes()), "? line too long\n");
+    }
+}
+
+#[test]
+fn a_carriage_return_counts_for_the_longest_line() {
+    let fits = format!("irq{}\r\n", " ".repeat(LONGEST - 4));
+    let over = format!("irq{}\r\n", " ".repeat(LONGEST - 3));
+    assert_eq!(output(fits.as_bytes()), "0 yes\n");
+    assert_eq!(output(over.as_bytes()), "? line too long\n");
+}
+
+#[test]
+fn a_line_far_too_long_gets_one_answer() {
+    let input = format!("irq\n{}\nread 10 1\n", "reset ".repeat(20_000));
+    assert_eq!(output(input.as_bytes()), "0 yes\n? line too long\n0 7F\n");
+}
