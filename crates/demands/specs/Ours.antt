@@ -1,4 +1,8 @@
 -- OUR SIX CALLS, as a machine.
+--
+--    changing d buffer, asking a    what a call and a question of crates/calls give back, as a machine's call gives it
+--    called m c                     what our calls do
+--    ours                           the machine
 use Prim.Native.Nat.{ℕ}
 use mathlib.Core.Bool.{false}
 use mathlib.Core.List.{List, []}
@@ -12,7 +16,6 @@ use Rattle.calls.specs.declared.Answered.{Answered}
 use Rattle.calls.specs.Calls.{resetCall, lookCall, writeCall, readCall, readBuffer, heldCall, lineCall}
 use Rattle.demands.specs.Machine.{Call, reset, look, write, read, held, interrupt, Gives, Machine}
 
--- a call that lends no buffer, and a question
 unfoldable pub changing : Done → List ℕ → Gives Module
 changing d buffer = record { number = d .number; next = d .after; buffer = buffer; answer = false }
 
