@@ -1,0 +1,182 @@
+/* The cases, and the modules and samples that they begin with. */
+#include "cases.h"
+#include "chance.h"
+
+int printf(const char *format, ...);
+void *memset(void *to, int byte, size_t count);
+
+enum { STORM = 64 };
+
+/* The modules. */
+static struct panel calm;    /* size 8C, D 3, three keys held, nothing new */
+static struct panel small;   /* the same in size 22, two keys held */
+static struct panel open;    /* size 8C, D 1, no key held */
+static struct panel full;    /* 15 codes wait, five keys held, every flag of a change set */
+static struct panel unsound; /* the same, failing the last test of soundness: all four marks */
+
+/* A calm look: the keys that are held stay closed, a special function key among them. */
+static const uint16_t calm_looks[][8] = {{0x0002, 0, 0, 0x0020, 0, 0, 0, 0x1000}};
+static const uint16_t small_looks[][8] = {{0x0001, 0x1000, 0, 0, 0, 0, 0, 0}};
+
+/* Typing: beside those keys, row 2 column 4 and row 5 column 9 close and open again, bouncing as they do. */
+#define TYPED(one, other) {0x0002, 0, (one) << 4, 0x0020, 0, (other) << 9, 0, 0x1000}
+static const uint16_t typing_looks[][8] = {
+    TYPED(1, 0), TYPED(0, 1), TYPED(1, 0), TYPED(1, 1), TYPED(1, 0), TYPED(1, 1), TYPED(1, 1), TYPED(1, 1),
+    TYPED(0, 1), TYPED(1, 0), TYPED(0, 1), TYPED(0, 0), TYPED(0, 1), TYPED(0, 0), TYPED(0, 0), TYPED(0, 0),
+};
+
+/* A storm: every contact random at every look. */
+static uint16_t storm_looks[STORM][8];
+
+/* A burst: 16 keys at once, one more than the queue holds. */
+static const uint16_t burst_looks[][8] = {{0x0FFF, 0x000F, 0, 0, 0, 0, 0, 0}};
+
+/* Samples with bit 13 set in the last row. */
+static const uint16_t high_looks[][8] = {{0x0002, 0, 0, 0x0020, 0, 0, 0, 0x2000}};
+
+#define LOOKS(name, start, looks, count, number) {name, LOOK, &(start), (const uint16_t(*)[8])(looks), sizeof(looks) / sizeof((looks)[0]), 0, {0, 0}, count, number}
+#define READS(name, start, first, count, number) {name, READ, &(start), 0, 1, first, {0, 0}, count, number}
+#define WRITES(name, start, first, byte, other, count, number) {name, WRITE, &(start), 0, 1, first, {byte, other}, count, number}
+#define ASKS(name, start, row, col, number) {name, HELD, &(start), 0, 1, row, {col, 0}, 0, number}
+#define LINE(name, start, number) {name, INTERRUPT, &(start), 0, 1, 0, {0, 0}, 0, number}
+
+const struct measured cases[] = {
+    LOOKS("look: calm", calm, calm_looks, 8, 0),
+    LOOKS("look: typing", calm, typing_looks, 8, 0),
+    LOOKS("look: storm", calm, storm_looks, 8, 0),
+    LOOKS("look: burst of 16", open, burst_looks, 8, 0),
+    LOOKS("look: size 22, calm", small, small_looks, 8, 0),
+    READS("read: EVTCODE, 1 code", full, PANEL_EVTCODE, 1, 0),
+    READS("read: EVTCODE, 15 codes", full, PANEL_EVTCODE, 15, 0),
+    READS("read: EVTCODE, 32 bytes", full, PANEL_EVTCODE, 32, 0),
+    READS("read: picture, 4 bytes", full, PANEL_KBDCODE0, 4, 0),
+    READS("read: KBDRIS, KBDMIS", full, PANEL_KBDRIS, 2, 0),
+    ASKS("question: held", full, 7, 12, 0),
+    LINE("question: interrupt", full, 0),
+    WRITES("write: KBDBOUNCE", full, PANEL_KBDBOUNCE, 0x05, 0, 1, 0),
+    WRITES("write: KBDSIZE", full, PANEL_KBDSIZE, 0x8C, 0, 1, 0),
+    WRITES("write: KBDBOUNCE, KBDSIZE", full, PANEL_KBDBOUNCE, 0x05, 0x8C, 2, 0),
+    WRITES("write: KBDIC", full, PANEL_KBDIC, 0x03, 0, 1, 0),
+    WRITES("write: KBDMSK", full, PANEL_KBDMSK, 0x0A, 0, 1, 0),
+    WRITES("write: RSTINTCLR", full, PANEL_RSTINTCLR, 0x01, 0, 1, 0),
+    {"reset", RESET, &full, 0, 1, 0, {0, 0}, 0, 0},
+    LOOKS("declined 1: look", calm, calm_looks, 7, 1),
+    LOOKS("declined 2: look", calm, high_looks, 8, 2),
+    READS("declined 3: read", full, PANEL_EVTCODE, 0, 3),
+    WRITES("declined 3: write", full, PANEL_KBDBOUNCE, 0, 0, 0, 3),
+    READS("declined 4: read", full, PANEL_EVTCODE, 33, 4),
+    WRITES("declined 4: write", full, PANEL_KBDBOUNCE, 0, 0, 33, 4),
+    READS("declined 5: read", full, PANEL_KBDCODE0, 5, 5),
+    WRITES("declined 5: write", full, PANEL_KBDSIZE, 0x8C, 0, 2, 5),
+    WRITES("declined 6: write", full, PANEL_KBDBOUNCE, 0x05, 0x1C, 2, 6),
+    ASKS("declined 7: held", full, 8, 0, 7),
+    LOOKS("declined 8: look", unsound, calm_looks, 8, 8),
+    WRITES("declined 8: write", unsound, PANEL_KBDBOUNCE, 0x05, 0, 1, 8),
+    READS("declined 8: read", unsound, PANEL_EVTCODE, 15, 8),
+    ASKS("declined 8: held", unsound, 7, 12, 8),
+    LINE("declined 8: interrupt", unsound, 8),
+};
+
+const unsigned case_count = sizeof cases / sizeof cases[0];
+
+/* A module after reset, with a size and a bounce, and the line at rest. */
+static struct panel sized(uint8_t size, uint8_t bounce)
+{
+    struct panel panel;
+    uint8_t bytes[2];
+    uint8_t one = 1;
+    bytes[0] = bounce;
+    bytes[1] = size;
+    panel_reset(&panel);
+    panel_write(&panel, PANEL_KBDBOUNCE, bytes, 2);
+    panel_write(&panel, PANEL_RSTINTCLR, &one, 1);
+    return panel;
+}
+
+/* The same after a look has been believed and all that came of it fetched and cleared. */
+static struct panel settled(uint8_t size, const uint16_t *samples)
+{
+    struct panel panel = sized(size, 3);
+    uint8_t codes[15], all = 3;
+    panel_look(&panel, samples, 8);
+    panel_look(&panel, samples, 8);
+    panel_look(&panel, samples, 8);
+    panel_read(&panel, PANEL_EVTCODE, codes, sizeof codes);
+    panel_write(&panel, PANEL_KBDIC, &all, 1);
+    return panel;
+}
+
+/* The storm's samples. */
+static void make_storm(void)
+{
+    unsigned look, row;
+    chance_from(20240517u);
+    for (look = 0; look < STORM; look++) {
+        for (row = 0; row < 8; row++)
+            storm_looks[look][row] = (uint16_t)(chance() >> 8 & 0x1FFF);
+    }
+}
+
+/* The modules that the cases begin with. */
+static void make_modules(void)
+{
+    static const uint16_t five[8] = {0x0102, 0, 0, 0x0020, 0x0400, 0, 0, 0x1000};
+    calm = settled(0x8C, calm_looks[0]);
+    small = settled(0x22, small_looks[0]);
+    open = sized(0x8C, 1);
+    full = open;
+    panel_look(&full, burst_looks[0], 8);
+    panel_look(&full, five, 8);
+    unsound = full;
+    memset(unsound.seen, 1, sizeof unsound.seen);
+}
+
+/* The module, buffer and answer that the calls are made on. */
+static struct panel panel;
+static uint8_t buffer[64];
+static bool yes;
+
+/* One call of a turn. */
+static uint8_t make(const struct face *face, const struct measured *measured, unsigned at)
+{
+    switch (measured->call) {
+    case LOOK:
+        return face->look(&panel, measured->looks[at], measured->count);
+    case WRITE:
+        return face->write(&panel, measured->first, measured->bytes, measured->count);
+    case READ:
+        return face->read(&panel, measured->first, buffer, measured->count);
+    case HELD:
+        return face->held(&panel, panel_row(measured->first), panel_col(measured->bytes[0]), &yes);
+    case INTERRUPT:
+        return face->interrupt(&panel, &yes);
+    default:
+        return face->reset(&panel);
+    }
+}
+
+uint8_t turn(const struct face *face, const struct measured *measured)
+{
+    unsigned at;
+    uint8_t number = 0;
+    panel = *measured->start;
+    for (at = 0; at < measured->calls; at++)
+        number = make(face, measured, at);
+    return number;
+}
+
+bool prepare(const struct face *const *faces, unsigned face_count)
+{
+    unsigned i, face;
+    make_storm();
+    make_modules();
+    for (i = 0; i < case_count; i++) {
+        for (face = 0; face < face_count; face++) {
+            if (turn(faces[face], &cases[i]) == cases[i].number)
+                continue;
+            printf("%s: %s doesn't give %u\n", cases[i].name, faces[face]->name, cases[i].number);
+            return false;
+        }
+    }
+    return true;
+}

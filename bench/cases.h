@@ -1,0 +1,31 @@
+/* What is measured: a case is some calls, one after the other, from a module made for it. */
+#ifndef CASES_H
+#define CASES_H
+
+#include "face.h"
+
+enum call { RESET, LOOK, WRITE, READ, HELD, INTERRUPT };
+
+struct measured {
+    const char *name;
+    enum call call;
+    const struct panel *start;   /* the module before the first call */
+    const uint16_t (*looks)[8];  /* LOOK: a set of samples for each call */
+    unsigned calls;              /* how many calls one turn makes */
+    uint8_t first;               /* WRITE, READ: the first address; HELD: the row */
+    uint8_t bytes[33];           /* WRITE: the bytes; HELD: the column */
+    size_t count;                /* LOOK, WRITE, READ: how many samples or bytes */
+    uint8_t number;              /* the number that each call gives */
+};
+
+/* The cases, and how many there are. */
+extern const struct measured cases[];
+extern const unsigned case_count;
+
+/* Fills in the modules and samples that the cases begin with; false if a case doesn't give its number on each face. */
+bool prepare(const struct face *const *faces, unsigned face_count);
+
+/* One turn of a case on a face: the module is put back to the start, then the calls are made. Gives the last number. */
+uint8_t turn(const struct face *face, const struct measured *measured);
+
+#endif

@@ -1,0 +1,282 @@
+/*
+ * Do the archive and the plain C give the same answers? Random calls on random modules, sound and unsound:
+ * the number, every byte of the module, every byte of the buffer and the answer are compared after each.
+ */
+#include "chance.h"
+#include "face.h"
+
+int printf(const char *format, ...);
+int memcmp(const void *a, const void *b, size_t count);
+void *memset(void *to, int byte, size_t count);
+
+enum { CALLS = 150000, ROOM = 320 };
+
+enum call { RESET, LOOK, WRITE, READ, HELD, INTERRUPT };
+static const char *const names[] = {"reset", "look", "write", "read", "held", "interrupt"};
+
+/* What a call of each side is given and leaves. */
+struct side {
+    const struct face *face;
+    struct panel panel;
+    uint8_t buffer[ROOM];
+    bool yes;
+    uint8_t number;
+};
+
+/* A call's arguments, the same for both sides. */
+struct asked {
+    enum call call;
+    uint16_t samples[ROOM];
+    uint8_t bytes[ROOM];
+    uint8_t first;
+    uint8_t row;
+    uint8_t col;
+    size_t count;
+};
+
+/* How often each call gave each number. */
+static unsigned given[6][10];
+
+/* Is the key in the size? */
+static bool in_size(uint8_t size, unsigned row, unsigned col)
+{
+    return row < size / 16u && (col < size % 16u || col == 12);
+}
+
+/* A size, mostly one that is acceptable. */
+static uint8_t some_size(void)
+{
+    if (once_in(12))
+        return (uint8_t)chance();
+    return (uint8_t)(16 * (2 + below(7)) + 2 + below(11));
+}
+
+/* A key of the size: its press or release code. */
+static uint8_t some_code(uint8_t size)
+{
+    unsigned row = below(size / 16u), col = below(size % 16u + 1u);
+    if (col == size % 16u)
+        col = 12;
+    return (uint8_t)(128 * below(2) + 16 * row + col);
+}
+
+/* Some keys of the size are held or have a run: one in `odds`. */
+static void some_keys(struct panel *panel, unsigned odds)
+{
+    unsigned row, col;
+    for (row = 0; row < 8; row++) {
+        for (col = 0; col < 13; col++) {
+            if (!in_size(panel->size, row, col) || !once_in(odds))
+                continue;
+            panel->held[13 * row + col] = below(2);
+            panel->run[13 * row + col] = (uint8_t)below(once_in(2) ? 5 : 255);
+        }
+    }
+}
+
+/* Some codes wait, often 15. */
+static void some_queue(struct panel *panel)
+{
+    unsigned i;
+    panel->count = (uint8_t)(once_in(3) ? 15 : below(16));
+    for (i = 0; i < panel->count; i++)
+        panel->queue[i] = some_code(panel->size);
+}
+
+/* A sound module, whether or not calls from reset can lead to it. */
+static struct panel some_panel(void)
+{
+    struct panel panel;
+    panel_reset(&panel);
+    panel.size = (uint8_t)(16 * (2 + below(7)) + 2 + below(11));
+    some_keys(&panel, 1 + below(12));
+    some_queue(&panel);
+    panel.bounce = (uint8_t)(once_in(8) ? chance() : below(6));
+    panel.mask = (uint8_t)below(16);
+    panel.rsint = below(2);
+    panel.rklint = below(2);
+    panel.relint = below(2);
+    panel.porirq = below(2);
+    panel.seen[below(4)] = below(2);
+    panel.seen[below(4)] = below(2);
+    panel.seen[below(4)] = below(2);
+    return panel;
+}
+
+/* One byte of the module becomes another; a bool stays one. Mostly that makes it unsound. */
+static void hurt(struct panel *panel)
+{
+    switch (below(8)) {
+    case 0:
+        panel->size = (uint8_t)chance();
+        break;
+    case 1:
+        panel->held[below(104)] = true;
+        break;
+    case 2:
+        panel->run[below(104)] = (uint8_t)(once_in(2) ? 255 : chance());
+        break;
+    case 3:
+        panel->queue[below(15)] = (uint8_t)chance();
+        break;
+    case 4:
+        panel->count = (uint8_t)(once_in(2) ? below(18) : chance());
+        break;
+    case 5:
+        panel->mask = (uint8_t)chance();
+        break;
+    case 6:
+        memset(panel->seen, 1, 4);
+        break;
+    default:
+        panel->bounce = (uint8_t)chance();
+        break;
+    }
+}
+
+/* A number of samples or bytes: mostly `usual`. */
+static size_t some_count(size_t usual)
+{
+    static const size_t rare[] = {0, 1, 2, 7, 8, 9, 15, 31, 32, 33, 40, 255, 256, 257, 264, 288};
+    return once_in(6) ? rare[below(16)] : usual;
+}
+
+/* An address, mostly that of a register. */
+static uint8_t some_address(void)
+{
+    static const uint8_t known[] = {0x02, 0x03, 0x06, 0x07, 0x08, 0x09, 0x0B, 0x0C, 0x0D, 0x0E, 0x10, 0x10, 0x84};
+    return once_in(10) ? (uint8_t)chance() : known[below(13)];
+}
+
+/* Samples: few contacts closed, or many; seldom a high bit. */
+static void some_samples(struct asked *asked)
+{
+    unsigned row, few = below(2);
+    for (row = 0; row < ROOM; row++)
+        asked->samples[row] = (uint16_t)((few ? chance() & chance() & chance() : chance()) & 0x1FFF);
+    if (once_in(12))
+        asked->samples[below(8)] |= (uint16_t)(0x2000 << below(3));
+    asked->count = some_count(8);
+}
+
+/* An access: sizes, small numbers and any bytes, few at a time. */
+static void some_bytes(struct asked *asked)
+{
+    unsigned i;
+    for (i = 0; i < ROOM; i++)
+        asked->bytes[i] = (uint8_t)(once_in(2) ? some_size() : once_in(2) ? chance() : below(5));
+    asked->first = some_address();
+    asked->count = some_count(asked->call == WRITE ? 1 + below(2) : 1 + below(5));
+}
+
+/* A row and a column, now and then none of the panel's. */
+static void some_key(struct asked *asked)
+{
+    asked->row = (uint8_t)(once_in(8) ? chance() : below(9));
+    asked->col = (uint8_t)(once_in(8) ? chance() : below(14));
+}
+
+/* A random call. */
+static struct asked some_call(void)
+{
+    static const enum call calls[] = {LOOK, LOOK, LOOK, LOOK, WRITE, WRITE, READ, READ, READ, HELD, INTERRUPT};
+    static struct asked asked;
+    asked.call = once_in(60) ? RESET : calls[below(11)];
+    if (asked.call == LOOK)
+        some_samples(&asked);
+    if (asked.call == WRITE || asked.call == READ)
+        some_bytes(&asked);
+    if (asked.call == HELD)
+        some_key(&asked);
+    return asked;
+}
+
+/* The call, made on one side. */
+static void make(struct side *side, const struct asked *asked)
+{
+    switch (asked->call) {
+    case RESET:
+        side->number = side->face->reset(&side->panel);
+        break;
+    case LOOK:
+        side->number = side->face->look(&side->panel, asked->samples, asked->count);
+        break;
+    case WRITE:
+        side->number = side->face->write(&side->panel, asked->first, asked->bytes, asked->count);
+        break;
+    case READ:
+        side->number = side->face->read(&side->panel, asked->first, side->buffer + 1, asked->count);
+        break;
+    case HELD:
+        side->number = side->face->held(&side->panel, panel_row(asked->row), panel_col(asked->col), &side->yes);
+        break;
+    case INTERRUPT:
+        side->number = side->face->interrupt(&side->panel, &side->yes);
+        break;
+    }
+}
+
+/* Did both give the same number and answer, and leave the same bytes? */
+static bool agree(const struct side *a, const struct side *b)
+{
+    return a->number == b->number && a->yes == b->yes && memcmp(&a->panel, &b->panel, sizeof a->panel) == 0 && memcmp(a->buffer, b->buffer, ROOM) == 0;
+}
+
+/* Before some calls both modules become another one, or are hurt alike. */
+static void disturb(struct side *a, struct side *b)
+{
+    if (once_in(20))
+        a->panel = some_panel();
+    if (once_in(20))
+        hurt(&a->panel);
+    b->panel = a->panel;
+}
+
+/* Many calls on both; false at the first difference. */
+static bool compare(const struct face *one, const struct face *other)
+{
+    static struct side a, b;
+    unsigned i;
+    chance_from(20240517u);
+    a.face = one;
+    b.face = other;
+    a.panel = some_panel();
+    for (i = 0; i < CALLS; i++) {
+        struct asked asked = some_call();
+        disturb(&a, &b);
+        make(&a, &asked);
+        make(&b, &asked);
+        if (!agree(&a, &b)) {
+            printf("call %u, %s: %s gives %u, %s gives %u, or module, buffer or answer differ\n", i, names[asked.call], one->name, a.number, other->name, b.number);
+            return false;
+        }
+        given[asked.call][a.number]++;
+    }
+    return true;
+}
+
+/* Says how often each number came; false if one that a call can give never did. */
+static bool all_given(void)
+{
+    static const char *const can[] = {"0", "0128", "034568", "03458", "078", "08"};
+    const char *digit;
+    unsigned call;
+    bool all = true;
+    for (call = 0; call < 6; call++) {
+        printf("  %s:", names[call]);
+        for (digit = can[call]; *digit; digit++) {
+            printf(" number %c %u times%s", *digit, given[call][*digit - '0'], digit[1] ? "," : "\n");
+            all = all && given[call][*digit - '0'] > 0;
+        }
+    }
+    return all;
+}
+
+/* Both levels of the plain C, and whether every number was met. */
+int main(void)
+{
+    if (!compare(&proved, &plain_O2) || !compare(&proved, &plain_O3))
+        return 1;
+    printf("the same answers: %u random calls of the archive and of the plain C at -O2, and as many at -O3\n", CALLS);
+    return all_given() ? 0 : 1;
+}
