@@ -14,7 +14,7 @@ struct face {
     uint8_t (*interrupt)(const struct panel *panel, bool *yes);
 };
 
-/* The archive, behind the inline functions of panel.h (faces.c). */
+/* The archive, reset behind the inline function of panel.h (faces.c). */
 extern const struct face proved;
 
 /* plain.c, compiled at two levels. */

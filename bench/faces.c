@@ -1,26 +1,14 @@
 /* The archive as a table, and the calls that do nothing. */
 #include "face.h"
 
-/* The header's inline functions, as functions that have an address. */
+/* The header's inline function, as a function that has an address. */
 static uint8_t proved_reset(struct panel *panel)
 {
     return panel_reset(panel);
 }
 
-/* The held question, by value underneath. */
-static uint8_t proved_held(const struct panel *panel, struct panel_row row, struct panel_col col, bool *yes)
-{
-    return panel_held(panel, row, col, yes);
-}
-
-/* The interrupt question, by value underneath. */
-static uint8_t proved_interrupt(const struct panel *panel, bool *yes)
-{
-    return panel_interrupt(panel, yes);
-}
-
-/* Look, write and read are the archive's own. */
-const struct face proved = {"proved", proved_reset, panel_look, panel_write, panel_read, proved_held, proved_interrupt};
+/* The others are the archive's own. */
+const struct face proved = {"proved", proved_reset, panel_look, panel_write, panel_read, panel_held, panel_interrupt};
 
 /* Calls that do nothing: the cost of a turn without them. */
 static uint8_t idle_reset(struct panel *panel)

@@ -9,14 +9,14 @@
  *     panel_look(&panel, samples, PANEL_ROWS);
  *     panel_read(&panel, PANEL_EVTCODE, codes, sizeof codes);
  *
- * Each call gives a number. PANEL_DONE: the call was done. Any other: it was declined, and neither the module nor a byte of the buffer is altered. A number is given exactly when its condition holds and none before it in the call's list does.
+ * Each call gives a number. PANEL_DONE: the call was done. Any other: it was declined, neither the module nor a byte of the buffer is altered, and a question's answer is no. A number is given exactly when its condition holds and none before it in the call's list does.
  *
  * Link with libpanel.a, which `rt staticlib panel` writes. It needs memcpy and the like, and nothing else.
  *
  * What the six calls do is proved, for every module, every argument and every length. Outside the proof, and so for the caller to see to:
- *   - every bool of a `struct panel` is the byte 0 or 1 (panel_reset alone asks nothing of the memory that it fills);
+ *   - every bool of a `struct panel`, and the bool that takes an answer, is the byte 0 or 1 before the call (panel_reset alone asks nothing of the memory that it fills);
  *   - a pointer is valid for its length, and not null, also when the length is 0 and when the call is declined;
- *   - module, samples, bytes and buffer don't overlap, and nobody else touches them during a call;
+ *   - module, samples, bytes, buffer and answer don't overlap, and nobody else touches them during a call;
  *   - the C compiler, and the inline functions of this file.
  */
 #ifndef PANEL_H
@@ -129,25 +129,28 @@ uint8_t panel_write(struct panel *panel, uint8_t first, const uint8_t *bytes, si
  */
 uint8_t panel_read(struct panel *panel, uint8_t first, uint8_t *buffer, size_t count);
 
-/* What the calls by value hand back: the module after the call (as it was given, after a question), and the number. */
+/*
+ * Is this key held? The answer goes to `yes`; no, if the call is declined or the key is out of the size. The module is only looked at.
+ * Numbers: PANEL_UNSOUND, PANEL_NO_KEY, else PANEL_DONE.
+ */
+uint8_t panel_held(const struct panel *panel, struct panel_row row, struct panel_col col, bool *yes);
+
+/*
+ * Is the interrupt line asserted? The answer goes to `yes`; no, if the call is declined. The module is only looked at.
+ * Numbers: PANEL_UNSOUND, else PANEL_DONE.
+ */
+uint8_t panel_interrupt(const struct panel *panel, bool *yes);
+
+/* What reset hands back, by value: the module after it, and the number. panel_reset below is the same over a pointer. */
 struct panel_done {
     struct panel after;
     uint8_t number;
 };
 
-struct panel_answered {
-    struct panel after;
-    uint8_t number;
-    bool yes;
-};
-
-/* Reset and the two questions, by value. The functions below are the same over a pointer. */
 struct panel_done panel_reset_value(void);
-struct panel_answered panel_held_value(struct panel panel, struct panel_row row, struct panel_col col);
-struct panel_answered panel_interrupt_value(struct panel panel);
 
 /* Refused where the compiler lays the structs out otherwise. */
-typedef char panel_layout_is_right[sizeof(struct panel) == 235 && sizeof(struct panel_done) == 236 && sizeof(struct panel_answered) == 237 ? 1 : -1];
+typedef char panel_layout_is_right[sizeof(struct panel) == 235 && sizeof(struct panel_done) == 236 && sizeof(struct panel_row) == 1 && sizeof(struct panel_col) == 1 ? 1 : -1];
 
 static inline struct panel_row panel_row(uint8_t row)
 {
@@ -167,22 +170,6 @@ static inline uint8_t panel_reset(struct panel *panel)
     struct panel_done done = panel_reset_value();
     *panel = done.after;
     return done.number;
-}
-
-/* Is this key held? No, if the call is declined or the key is out of the size. Numbers: PANEL_UNSOUND, PANEL_NO_KEY, else PANEL_DONE. */
-static inline uint8_t panel_held(const struct panel *panel, struct panel_row row, struct panel_col col, bool *yes)
-{
-    struct panel_answered answered = panel_held_value(*panel, row, col);
-    *yes = answered.yes;
-    return answered.number;
-}
-
-/* Is the interrupt line asserted? No, if the call is declined. Numbers: PANEL_UNSOUND, else PANEL_DONE. */
-static inline uint8_t panel_interrupt(const struct panel *panel, bool *yes)
-{
-    struct panel_answered answered = panel_interrupt_value(*panel);
-    *yes = answered.yes;
-    return answered.number;
 }
 
 #ifdef __cplusplus

@@ -27,8 +27,6 @@ static void told_by_the_compiler(void)
     SAME(offsetof(struct panel, porirq), PORIRQ_AT);
     SAME(offsetof(struct panel, seen), SEEN_AT);
     SAME(offsetof(struct panel_done, number), END);
-    SAME(offsetof(struct panel_answered, number), END);
-    SAME(offsetof(struct panel_answered, yes), END + 1);
     group_ends();
 }
 
@@ -145,30 +143,35 @@ static void places_seen(void)
     group_ends();
 }
 
-/* The calls by value: the module that comes back, the number and the answer. */
-static void values_seen(void)
+/* Reset by value: the module that comes back, and the number. */
+static void reset_seen(void)
 {
-    group("layout seen through calls", "calls by value");
-    struct panel panel = after_reset();
+    group("layout seen through calls", "reset by value");
     struct panel_done done = panel_reset_value();
-    struct panel_answered held, line;
     image_after_reset();
     SO(is_image(&done.after));
     SAME(done.number, 0);
+    group_ends();
+}
+
+/* An answer is one byte, 0 or 1; the bytes around it and the module stay. */
+static void answers_seen(void)
+{
+    group("layout seen through calls", "answers");
+    struct panel panel = after_reset(), was;
+    bool room[3] = {true, true, true};
     SAME(WRITE(&panel, PANEL_KBDBOUNCE, 1), 0);
     SAME(LOOK(&panel, 0, 0x0002, 0, 0, 0, 0, 0, 0), 0);
-    held = panel_held_value(panel, panel_row(1), panel_col(1));
-    SO(same_panel(&held.after, &panel));
-    SAME(held.number, 0);
-    SO(held.yes);
-    held = panel_held_value(panel, panel_row(8), panel_col(1));
-    SO(same_panel(&held.after, &panel));
-    SAME(held.number, 7);
-    SO(!held.yes);
-    line = panel_interrupt_value(panel);
-    SO(same_panel(&line.after, &panel));
-    SAME(line.number, 0);
-    SO(line.yes);
+    was = panel;
+    SAME(panel_held(&panel, panel_row(0), panel_col(1), room + 1), 0);
+    SO(memcmp(room, "\1\0\1", 3) == 0);
+    SAME(panel_held(&panel, panel_row(1), panel_col(1), room + 1), 0);
+    SO(memcmp(room, "\1\1\1", 3) == 0);
+    SAME(panel_held(&panel, panel_row(8), panel_col(1), room + 1), 7);
+    SO(memcmp(room, "\1\0\1", 3) == 0);
+    SAME(panel_interrupt(&panel, room + 1), 0);
+    SO(memcmp(room, "\1\1\1", 3) == 0);
+    SO(same_panel(&panel, &was));
     group_ends();
 }
 
@@ -179,5 +182,6 @@ void layout(void)
     keys_seen();
     marks_seen();
     places_seen();
-    values_seen();
+    reset_seen();
+    answers_seen();
 }

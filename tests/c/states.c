@@ -106,13 +106,12 @@ static void read_gives(const struct panel *was, uint8_t first, size_t count, uns
 
 static void questions_give(const struct panel *was, uint8_t row, unsigned number)
 {
-    struct panel_answered held = panel_held_value(*was, panel_row(row), panel_col(0));
-    struct panel_answered line = panel_interrupt_value(*was);
-    SAME(held.number, number);
-    SAME(line.number, number);
-    SO(same_panel(&held.after, was));
-    SO(same_panel(&line.after, was));
-    SO(number == 0 || (!held.yes && !line.yes));
+    struct panel panel = *was;
+    bool held = true, line = true;
+    SAME(panel_held(&panel, panel_row(row), panel_col(0), &held), number);
+    SAME(panel_interrupt(&panel, &line), number);
+    SO(same_panel(&panel, was));
+    SO(number == 0 || (!held && !line));
 }
 
 static void all_give(const struct panel *panel, unsigned number)

@@ -3,7 +3,6 @@
 --    written m r b    the state once the byte b is written to the register r
 --    byteOf m r       the byte that a read of the register r gives
 --    readOut m r      the state once it is read
---    readByte m r     both
 --
 -- A register that can't be accessed so never comes here: a written byte then changes nothing, and a byte read is 0.
 use Prim.Native.Nat.{ℕ, _%_}
@@ -15,7 +14,6 @@ use Rattle.state.specs.Module.{restarted, queueOf, withQueue, withBounce, withM
 use Rattle.state.specs.Queue.{oldest, taken}
 use Rattle.flags.specs.Flags.{ris, mis}
 use Rattle.picture.specs.Picture.{picture, marked}
-use Rattle.access.specs.declared.Got.{Got}
 
 unfoldable pub written : Module → Register → ℕ → Module
 -- "D, any byte"
@@ -61,6 +59,3 @@ readOut m KBDIC = m
 readOut m KBDMSK = m
 readOut m RSTINTCLR = m
 readOut m Unknown = m
-
-unfoldable pub readByte : Module → Register → Got
-readByte m r = record { after = readOut m r; byte = byteOf m r }

@@ -3,17 +3,23 @@ use registers::Register;
 use state::Module;
 ghost use mathlib.Core.Path.{_≡_};
 ghost use lib.ListN.{length};
+ghost use Rattle.words.specs.Words.{table};
+ghost use Rattle.state.specs.Module.{queue, withQueue};
 ghost use Rattle.access.specs.Bytes as byte;
 ghost use Rattle.access.specs.Accesses as is;
+ghost use Rattle.access.specs.Lent.{lent};
 
-// A byte that was read, and the state after it.
-pub struct Got {
-    pub after: Module,
-    pub byte: u8,
+// What a read shows and leaves as it is.
+struct Shown {
+    bounce: u8,
+    size: u8,
+    mask: u8,
+    rklint: bool,
+    relint: bool,
 }
 
 // The state once a byte is written to a register.
-pub fn written(m: Module, register: Register, b: u8) -> Module
+fn written(m: Module, register: Register, b: u8) -> Module
     ensures { λ r. ⌜ r ≡ byte.written m register b ⌝ }
 {
     let mut next = m;
@@ -60,71 +66,154 @@ pub fn wrote(m: Module, first: u16, bytes: &[u8]) -> Module
     after
 }
 
-// A byte of EVTCODE: the oldest code is taken out.
-fn take_code(m: Module) -> Got
-    ensures { λ r. ⌜ r ≡ byte.readByte m Register.EVTCODE ⌝ }
+// The byte that a read of a register gives, and what it does to the parts lent.
+fn read_byte(
+    held: &[bool; 104],
+    shown: Shown,
+    places: &mut [u8; 15],
+    count: &mut u8,
+    rsint: &mut bool,
+    seen: &mut [bool; 4],
+    register: Register,
+) -> u8
+    ensures { λ r. ⌜ ((m : Module) →
+        let before = lent m (now (held .entry)) shown (now (places .entry)) (now (count .entry)) (now (rsint .entry)) (now (seen .entry)) in
+        let after = lent m (now (held .entry)) shown (now (places .exit)) (now (count .exit)) (now (rsint .exit)) (now (seen .exit)) in
+        (r ≡ byte.byteOf before register) × (after ≡ byte.readOut before register)) ⌝ }
 {
-    let mut places = m.queue;
-    let mut count = m.count;
-    let code = state::queue::take_oldest(&mut places, &mut count);
-    let mut next = m;
-    next.queue = places;
-    next.count = count;
-    Got {
-        after: next,
-        byte: code,
+    match register {
+        Register::KBDBOUNCE => shown.bounce,
+        Register::KBDSIZE => shown.size,
+        Register::KBDRIS => flags::ris(shown.relint, *count, shown.rklint, *rsint),
+        Register::KBDMIS => flags::mis(shown.relint, *count, shown.rklint, *rsint, shown.mask),
+        Register::KBDIC => 0,
+        Register::KBDMSK => shown.mask,
+        Register::KBDCODE(n) => {
+            let code = picture::picture(held, n);
+            picture::mark(rsint, seen, n);
+            code
+        }
+        Register::EVTCODE => state::queue::take_oldest(places, count),
+        Register::RSTINTCLR => 0,
+        Register::Unknown => 0,
     }
 }
 
-// The byte that a read of a register gives, and the state after it.
-pub fn read_byte(m: Module, register: Register) -> Got
-    ensures { λ r. ⌜ r ≡ byte.readByte m register ⌝ }
+// No code waits: every byte is 0x7F.
+fn fill_empty(out: &mut [u8])
+    ensures { λ _. ⌜ now (out .exit) ≡ table (λ _. 0x7F) (length (now (out .entry))) ⌝ }
 {
-    match register {
-        Register::KBDBOUNCE => Got {
-            after: m,
-            byte: m.bounce,
-        },
-        Register::KBDSIZE => Got {
-            after: m,
-            byte: m.size,
-        },
-        Register::KBDRIS => Got {
-            after: m,
-            byte: flags::ris(m),
-        },
-        Register::KBDMIS => Got {
-            after: m,
-            byte: flags::mis(m),
-        },
-        Register::KBDIC => Got { after: m, byte: 0 },
-        Register::KBDMSK => Got {
-            after: m,
-            byte: m.mask,
-        },
-        Register::KBDCODE(n) => {
-            let shown = picture::picture(&m.held, n);
-            Got {
-                after: picture::marked(m, n),
-                byte: shown,
-            }
-        }
-        Register::EVTCODE => take_code(m),
-        Register::RSTINTCLR => Got { after: m, byte: 0 },
-        Register::Unknown => Got { after: m, byte: 0 },
+    let mut i: usize = 0;
+    while i < out.len() {
+        out[i] = 0x7F;
+        i = i + 1;
     }
+}
+
+// EVTCODE, byte for byte: the oldest code goes to the buffer's first place, and the rest of the buffer is filled by the same rule.
+fn fetch(places: &mut [u8; 15], count: &mut u8, out: &mut [u8])
+    ensures { λ _. ⌜ ((m : Module) →
+        let before = withQueue m (queue (now (places .entry)) (now (count .entry)) (m .relint)) in
+        let after = withQueue m (queue (now (places .exit)) (now (count .exit)) (m .relint)) in
+        (after ≡ is.readAll before 0x10 (length (now (out .entry)))) × (now (out .exit) ≡ is.bytesRead before 0x10 (length (now (out .entry))))) ⌝ }
+{
+    let waiting = *count;
+    if waiting < 1 {
+        fill_empty(out);
+        return;
+    }
+    if out.len() < 1 {
+        return;
+    }
+    out[0] = state::queue::take_oldest(places, count);
+    fetch(places, count, &mut out[1..]);
 }
 
 // One byte is read into the buffer's first place, and the rest of the buffer is filled by the same rule.
+fn fill_from(
+    held: &[bool; 104],
+    shown: Shown,
+    places: &mut [u8; 15],
+    count: &mut u8,
+    rsint: &mut bool,
+    seen: &mut [bool; 4],
+    first: u16,
+    out: &mut [u8],
+)
+    ensures { λ _. ⌜ ((m : Module) →
+        let before = lent m (now (held .entry)) shown (now (places .entry)) (now (count .entry)) (now (rsint .entry)) (now (seen .entry)) in
+        let after = lent m (now (held .entry)) shown (now (places .exit)) (now (count .exit)) (now (rsint .exit)) (now (seen .exit)) in
+        (after ≡ is.readAll before first (length (now (out .entry)))) × (now (out .exit) ≡ is.bytesRead before first (length (now (out .entry))))) ⌝ }
+{
+    if out.len() < 1 {
+        return;
+    }
+    out[0] = read_byte(
+        held,
+        shown,
+        places,
+        count,
+        rsint,
+        seen,
+        registers::register_at(first),
+    );
+    let next = registers::next_address(first);
+    fill_from(held, shown, places, count, rsint, seen, next, &mut out[1..]);
+}
+
+// The buffer is filled from EVTCODE: the queue is lent, and put back.
+fn fill_codes(m: Module, out: &mut [u8]) -> Module
+    ensures { λ r. ⌜ (r ≡ is.readAll m 0x10 (length (now (out .entry)))) × (now (out .exit) ≡ is.bytesRead m 0x10 (length (now (out .entry)))) ⌝ }
+{
+    let mut places = m.queue;
+    let mut count = m.count;
+    fetch(&mut places, &mut count, out);
+    let mut after = m;
+    after.queue = places;
+    after.count = count;
+    after
+}
+
+// The buffer is filled from any registers: what a read may alter of the state is lent, and put back.
+fn fill_bytes(m: Module, first: u16, out: &mut [u8]) -> Module
+    ensures { λ r. ⌜ (r ≡ is.readAll m first (length (now (out .entry)))) × (now (out .exit) ≡ is.bytesRead m first (length (now (out .entry)))) ⌝ }
+{
+    let shown = Shown {
+        bounce: m.bounce,
+        size: m.size,
+        mask: m.mask,
+        rklint: m.rklint,
+        relint: m.relint,
+    };
+    let held = m.held;
+    let mut places = m.queue;
+    let mut count = m.count;
+    let mut rsint = m.rsint;
+    let mut seen = m.seen;
+    fill_from(
+        &held,
+        shown,
+        &mut places,
+        &mut count,
+        &mut rsint,
+        &mut seen,
+        first,
+        out,
+    );
+    let mut after = m;
+    after.queue = places;
+    after.count = count;
+    after.rsint = rsint;
+    after.seen = seen;
+    after
+}
+
+// The buffer is filled by a read. EVTCODE's address stays, so that a read from there on has a rule of its own, which takes less stack.
 pub fn fill(m: Module, first: u16, out: &mut [u8]) -> Module
     ensures { λ r. ⌜ (r ≡ is.readAll m first (length (now (out .entry)))) × (now (out .exit) ≡ is.bytesRead m first (length (now (out .entry)))) ⌝ }
 {
-    if out.len() < 1 {
-        return m;
+    if first == 0x10 {
+        return fill_codes(m, out);
     }
-    let got = read_byte(m, registers::register_at(first));
-    out[0] = got.byte;
-    let next = registers::next_address(first);
-    let after = got.after;
-    fill(after, next, &mut out[1..])
+    fill_bytes(m, first, out)
 }

@@ -48,7 +48,7 @@ pub fn look(m: Module, samples: &[u16]) -> Done
             number: number,
         };
     }
-    if scan::has_strays(m, samples) {
+    if scan::has_strays(m) {
         return Done {
             after: m,
             number: numbers::OUT_OF_SIZE,

@@ -1,25 +1,21 @@
 // The panel's console: a command a line in, an answer a line out.
-mod command;
 mod draw;
-mod number;
-mod page;
+mod perform;
 mod reply;
-mod word;
 
-use command::Made;
-use command::Reply;
+use commands::Asked;
+use commands::Command;
 use libc::STDIN_FILENO;
 use libc::STDOUT_FILENO;
-use number::Fault;
 use state::Module;
+use text::number::Fault;
+use text::page;
+use text::page::Page;
 ghost use Prim.Native.Nat.{_≤_, _<_};
 ghost use lib.ListN.{length};
 
 // What is held of a line that is too long.
 const TOO_LONG: usize = 16385;
-
-// No answer is longer.
-const ROOM: usize = 4096;
 
 const NEWLINE: u8 = 10;
 
@@ -30,9 +26,7 @@ struct Session {
     panel: Module,
     // the bytes held of the line that has not ended, or TOO_LONG
     held: usize,
-    // the bytes of the page that are to be written out
-    at: usize,
-    // is there more to come?
+    // is there more to come, and could every answer be written?
     on: bool,
 }
 
@@ -51,38 +45,46 @@ fn line_end(input: &[u8], from: usize) -> usize
     i
 }
 
-// A part of a line goes behind the bytes that are held of it; TOO_LONG where they are too many.
+// A part of a line goes behind the bytes that are held of it, without its newline; TOO_LONG where they are too many.
 fn keep(line: &mut [u8], held: usize, part: &[u8]) -> usize {
     let mut at = held;
     let mut i: usize = 0;
     while i < part.len() {
+        let byte = part[i];
+        if byte == NEWLINE {
+            return at;
+        }
         if line.len() <= at {
             return TOO_LONG;
         }
-        line[at] = part[i];
+        line[at] = byte;
         at = at + 1;
         i = i + 1;
     }
     at
 }
 
-// Writes out the first bytes of the page.
-fn send(page: &[u8], at: usize) -> bool {
-    if at <= page.len() {
-        return io::write_all(STDOUT_FILENO, &page[0..at]);
+// Does a part of a line end it?
+fn is_ended(part: &[u8]) -> bool {
+    let n = part.len();
+    if n < 1 {
+        return false;
+    }
+    part[n - 1] == NEWLINE
+}
+
+// Writes out the first bytes of a list.
+fn send(bytes: &[u8], at: usize) -> bool {
+    if at <= bytes.len() {
+        return io::write_all(STDOUT_FILENO, &bytes[0..at]);
     }
     false
 }
 
-// Sees to it that the page has room for an answer.
-fn make_room(page: &[u8], at: usize) -> usize {
-    if at <= page.len() {
-        if ROOM <= page.len() - at {
-            return at;
-        }
-    }
-    send(page, at);
-    0
+// Writes out an answer.
+fn say(page: Page) -> bool {
+    let bytes = page.bytes;
+    send(&bytes, page.at)
 }
 
 // A line without the one carriage return that may end it.
@@ -99,109 +101,94 @@ fn without_return(line: &[u8], held: usize) -> usize
     held
 }
 
-// Does what the line that has ended asks for.
-fn answered(s: Session, line: &[u8], bytes: &mut [u8]) -> Made {
-    let panel = s.panel;
-    let held = s.held;
+// What the line that has ended asks for; its numbers go to the list.
+fn asked(line: &[u8], held: usize, values: &mut [u16]) -> Asked
+    requires { ⌜ 1 < length (now values) ⌝ }
+    ensures { λ r. ⌜ r .count ≤ length (now (values .exit)) ⌝ }
+{
     if line.len() < held {
-        return Made {
-            after: panel,
-            reply: Reply::Wrong(Fault::TooLong),
-        };
+        return commands::wrong(Fault::TooLong);
     }
     let end = without_return(line, held);
-    command::perform(panel, &line[0..end], bytes)
+    commands::asks(&line[0..end], values)
 }
 
-// Answers the line that has ended.
-fn end_line(s: Session, line: &[u8], page: &mut [u8]) -> Session {
+// Does a command and answers it.
+fn answered(s: Session, command: Command, values: &[u16]) -> Session {
     let mut bytes = [0u8; 1024];
-    let made = answered(s, line, &mut bytes);
-    let at = make_room(page, s.at);
-    let after = made.after;
-    let reply = made.reply;
+    let panel = s.panel;
+    let done = perform::perform(command, panel, values, &mut bytes);
+    let n = page::least(perform::count_of(values), 1024);
+    let after = done.after;
     Session {
         panel: after,
         held: 0,
-        at: reply::reply(reply, after, &bytes, page, at),
-        on: true,
+        on: s.on & say(reply::reply(page::empty(), command, done, &bytes[0..n])),
     }
+}
+
+// Answers the line that has ended.
+fn end_line(s: Session, line: &[u8]) -> Session {
+    let mut values = [0u16; 8192];
+    let asked = asked(line, s.held, &mut values);
+    let count = asked.count;
+    let command = asked.command;
+    answered(s, command, &values[0..count])
 }
 
 // Takes in a part of a line, with its newline where it has one.
-fn take_in(s: Session, part: &[u8], line: &mut [u8], page: &mut [u8]) -> Session {
-    let n = part.len();
-    if n < 1 {
-        return s;
-    }
-    let held = s.held;
+fn take_in(s: Session, part: &[u8], line: &mut [u8]) -> Session {
     let mut next = s;
-    if part[n - 1] != NEWLINE {
-        next.held = keep(line, held, part);
-        return next;
+    next.held = keep(line, s.held, part);
+    if is_ended(part) {
+        return end_line(next, line);
     }
-    next.held = keep(line, held, &part[0..n - 1]);
-    end_line(next, line, page)
+    next
 }
 
 // Takes in a piece of input and answers all lines that it ends.
-fn feed(s: Session, input: &[u8], line: &mut [u8], page: &mut [u8]) -> Session {
+fn feed(s: Session, input: &[u8], line: &mut [u8]) -> Session {
     let mut session = s;
     let mut i: usize = 0;
     while i < input.len() {
         let end = line_end(input, i);
-        session = take_in(session, &input[i..end], line, page);
+        session = take_in(session, &input[i..end], line);
         i = end;
     }
     session
 }
 
-// Writes out the answers and forgets them; there is more to come, or not.
-fn flush(s: Session, page: &[u8], more: bool) -> Session {
-    let mut next = s;
-    next.on = send(page, s.at);
-    next.at = 0;
-    if more {
-        return next;
-    }
-    next.on = false;
-    next
-}
-
 // The end of the input: a final line without a newline counts.
-fn finish(s: Session, line: &[u8], page: &mut [u8]) -> Session {
-    let held = s.held;
-    if held < 1 {
-        return flush(s, page, false);
+fn finish(s: Session, line: &[u8]) -> Session {
+    let mut last = s;
+    if 0 < s.held {
+        last = end_line(s, line);
     }
-    let last = end_line(s, line, page);
-    flush(last, page, false)
+    last.on = false;
+    last
 }
 
 // Waits for input, and answers every line that has arrived.
-fn turn(s: Session, line: &mut [u8; 16384], page: &mut [u8; 65536]) -> Session {
+fn turn(s: Session, line: &mut [u8; 16384]) -> Session {
     let mut input = io::large_buffer();
     let got = libc::read(STDIN_FILENO, &mut input);
     let n = io::count(got, &input);
     if n < 1 {
-        return finish(s, line, page);
+        return finish(s, line);
     }
-    let next = feed(s, &input[..n], line, page);
-    flush(next, page, true)
+    feed(s, &input[..n], line)
 }
 
 fn main() {
     let mut line = [0u8; 16384];
-    let mut page = io::large_buffer();
     let mut s = Session {
         panel: state::fresh(),
         held: 0,
-        at: 0,
         on: true,
     };
     let mut turns = u64::MAX;
     while turns > 0 && s.on {
-        s = turn(s, &mut line, &mut page);
+        s = turn(s, &mut line);
         turns -= 1;
     }
 }

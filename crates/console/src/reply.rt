@@ -1,61 +1,84 @@
 // The replies as text.
-use crate::command::Reply;
 use crate::draw;
-use crate::number::Fault;
-use crate::page;
-use state::Module;
+use calls::Answered;
+use commands::Command;
+use text::number::Fault;
+use text::page;
+use text::page::Page;
 
-// What is wrong, in a few words.
-fn refusal(fault: Fault, page: &mut [u8], at: usize) -> usize {
+// The lines that say what is wrong, and those that answer a question: each is written to its newline.
+const TOO_FEW: [u8; 19] = *b"? too few words\n   ";
+
+const TOO_MANY: [u8; 19] = *b"? too many words\n  ";
+
+const NO_DIGIT: [u8; 19] = *b"? not a digit\n     ";
+
+const TOO_LARGE: [u8; 19] = *b"? number too large\n";
+
+const UNKNOWN: [u8; 19] = *b"? unknown command\n ";
+
+const TOO_LONG: [u8; 19] = *b"? line too long\n   ";
+
+const YES: [u8; 5] = *b" yes\n";
+
+const NO: [u8; 5] = *b" no\n ";
+
+// The line that says what is wrong.
+fn line_of(fault: Fault) -> [u8; 19] {
     match fault {
-        Fault::TooFew => page::text(page, at, b"? too few words\n"),
-        Fault::TooMany => page::text(page, at, b"? too many words\n"),
-        Fault::NoDigit => page::text(page, at, b"? not a digit\n"),
-        Fault::TooLarge => page::text(page, at, b"? number too large\n"),
-        Fault::Unknown => page::text(page, at, b"? unknown command\n"),
-        Fault::TooLong => page::text(page, at, b"? line too long\n"),
+        Fault::TooFew => TOO_FEW,
+        Fault::TooMany => TOO_MANY,
+        Fault::NoDigit => NO_DIGIT,
+        Fault::TooLarge => TOO_LARGE,
+        Fault::Unknown => UNKNOWN,
+        Fault::TooLong => TOO_LONG,
     }
+}
+
+// What is wrong.
+fn refusal(p: Page, fault: Fault) -> Page {
+    let words = line_of(fault);
+    page::line(p, &words)
+}
+
+// The answer of a question.
+fn yes_or_no(yes: bool) -> [u8; 5] {
+    if yes {
+        return YES;
+    }
+    NO
 }
 
 // A question's number, yes or no.
-fn question(number: u8, yes: bool, page: &mut [u8], at: usize) -> usize {
-    let next = page::digit(page, at, number);
-    if yes {
-        return page::text(page, next, b" yes\n");
-    }
-    page::text(page, next, b" no\n")
+fn question(p: Page, number: u8, yes: bool) -> Page {
+    let words = yes_or_no(yes);
+    page::line(page::digit(p, number), &words)
 }
 
 // A call's number.
-fn numbered(number: u8, page: &mut [u8], at: usize) -> usize {
-    let next = page::digit(page, at, number);
-    page::put(page, next, b'\n')
+fn numbered(p: Page, number: u8) -> Page {
+    page::put(page::digit(p, number), b'\n')
 }
 
 // A read's number, and the bytes where it was done.
-fn bytes_read(number: u8, bytes: &[u8], count: usize, page: &mut [u8], at: usize) -> usize {
+fn bytes_read(p: Page, number: u8, bytes: &[u8]) -> Page {
     if number != numbers::DONE {
-        return numbered(number, page, at);
+        return numbered(p, number);
     }
-    let n = page::least(count, bytes.len());
-    let mut next = page::digit(page, at, number);
-    let mut i: usize = 0;
-    while i < n {
-        next = page::form(page, next, b" %", &[bytes[i]]);
-        i = i + 1;
-    }
-    page::put(page, next, b'\n')
+    page::put(page::listed(page::digit(p, number), bytes), b'\n')
 }
 
-// A reply goes to a place of the page; the place after it.
-pub(crate) fn reply(answer: Reply, m: Module, bytes: &[u8], page: &mut [u8], at: usize) -> usize {
-    match answer {
-        Reply::Nothing => at,
-        Reply::Wrong(fault) => refusal(fault, page, at),
-        Reply::Number(number) => numbered(number, page, at),
-        Reply::Answer(number, yes) => question(number, yes, page, at),
-        Reply::Bytes(number, count) => bytes_read(number, bytes, count, page, at),
-        Reply::Show => draw::show(m, page, at),
-        Reply::Help => draw::help(page, at),
+// The reply to a command, on a page.
+pub(crate) fn reply(p: Page, command: Command, done: Answered, bytes: &[u8]) -> Page {
+    let m = done.after;
+    match command {
+        Command::Nothing => p,
+        Command::Wrong(fault) => refusal(p, fault),
+        Command::Show => draw::show(p, m),
+        Command::Help => draw::help(p),
+        Command::Read => bytes_read(p, done.number, bytes),
+        Command::Held => question(p, done.number, done.yes),
+        Command::Irq => question(p, done.number, done.yes),
+        _ => numbered(p, done.number),
     }
 }

@@ -6,7 +6,7 @@
 --    ProgressWrong found wanted    the codes fetched, once EVTCODE gives 7F        no-progress
 --    LossWrong                     RELINT, once a change was lost                  no-report
 --
--- Each is of a machine M and calls cs, newest first, whose bytes fit. The law beside it: then M does not meet the demand.
+-- Each is of a machine M and calls cs, newest first, whose bytes fit where the demand asks that. The law beside it: then M does not meet the demand.
 -- Assumes nothing.
 use Prim.Native.Nat.{ℕ, _+_, _*_, _≤_}
 use mathlib.Core.Path.{_≡_, refl, sym, ap, _∙_}
@@ -14,7 +14,7 @@ use mathlib.Core.Bool.{Bool, true, false, not}
 use mathlib.Core.List.{List, [], _∷_, _++_}
 use borrow.Author.Tests.{eq-eqb}
 use lib.Dec.{eqb}
-use lib.ListN.{length}
+use lib.ListN.{length, replicate}
 use Rattle.words.specs.Words.{all, some, bit}
 use Rattle.words.proofs.Laws.{true-false, and-both}
 use Rattle.sheet.specs.Sheet as sheet
@@ -53,15 +53,16 @@ module _ (M : Machine) (cs : List Call) where
   unfolding KeyWrong
   no-key row col found r c w d = opposite-not found (sym (w .1) ∙ d .keys cs (w .0) row col r c ∙ w .2)
 
-  -- the bytes of a done read
+  -- the bytes of a done read, into a buffer of 0xEE
   unfoldable pub BytesWrong : ℕ → List ℕ → List ℕ → Type 0
   BytesWrong a found wanted =
-      let g = M .does (after M cs) (read a found) in
-      (all fits cs ≡ true) × (g .number ≡ 0) × (g .buffer ≡ found) × (bytesOf a (length found) (done M cs) ≡ wanted) × (same found wanted ≡ false)
+      let out : List ℕ = replicate (length wanted) 0xEE in
+      let g = M .does (after M cs) (read a out) in
+      (g .number ≡ 0) × (g .buffer ≡ found) × (bytesOf a (length out) (done M cs) ≡ wanted) × (same found wanted ≡ false)
 
   pub no-bytes : (a : ℕ) (found wanted : List ℕ) → BytesWrong a found wanted → Demand2 M → ⊥
   unfolding BytesWrong
-  no-bytes a found wanted w d = differ found wanted (w .4) (sym (w .2) ∙ d .bytes cs (w .0) a found (w .1) ∙ w .3)
+  no-bytes a found wanted w d = differ found wanted (w .3) (sym (w .1) ∙ d .bytes cs a (replicate (length wanted) 0xEE) (w .0) ∙ w .2)
 
   -- a byte of EVTCODE is the empty mark; what was fetched, and what the history demands
   unfoldable pub ProgressWrong : List ℕ → List ℕ → Type 0

@@ -38,7 +38,7 @@ pub ours-never-unsound : NeverUnsound ours
 ours-never-unsound =
     record {
       never = reached-sound;
-      nowhere = λ cs t s. ap (λ (m : Module). strays m s) (reached cs) ∙ no-strays-shown (done ours cs) s;
+      nowhere = λ cs s. ap (λ (m : Module). strays m s) (reached cs) ∙ no-strays-shown (done ours cs) s;
     }
 
 -- "2. Held keys, fetched bytes, flags and the interrupt line are what the LM8328 data sheet, as narrowed by document 01,
@@ -46,7 +46,7 @@ ours-never-unsound =
 pub ours-demand2 : Demand2 ours
 ours-demand2 =
     record {
-      bytes = λ cs t a out e. bytes-observed cs a out e;
+      bytes = bytes-observed;
       keys = held-observed;
       line = line-observed;
     }

@@ -102,9 +102,9 @@ unfolding LedgerWrong KeyWrong BytesWrong ProgressWrong LossWrong same rows pres
 told =
     record {
       declining = refl;
-      blank-bytes = (refl, refl, refl, refl, refl);
+      blank-bytes = (refl, refl, refl, refl);
       blank = (refl, refl, refl, refl);
-      stuck-bytes = (refl, refl, refl, refl, refl);
+      stuck-bytes = (refl, refl, refl, refl);
       stuck = (refl, refl, refl, refl);
       asleep = (refl, refl, refl);
       once = (refl, refl, refl, refl);
@@ -112,7 +112,7 @@ told =
       remembering = (refl, refl, refl, refl);
       unchanged = (refl, refl, refl);
       emptying = (refl, refl, refl, refl);
-      passing = (refl, refl, refl, refl, refl);
+      passing = (refl, refl, refl, refl);
       hasty = (refl, refl, refl);
       forgetful = (refl, refl, refl, refl);
       stingy = (refl, refl, refl, refl, refl);

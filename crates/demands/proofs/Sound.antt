@@ -20,7 +20,7 @@ use Rattle.words.proofs.Tables.{table-at}
 use Rattle.keys.specs.Keys.{keyIn, keyOf}
 use Rattle.registers.specs.declared.Register.{Register}
 use Rattle.sheet.specs.Sheet.{Past, looked, wrote, got, size, held, waiting, marks}
-use Rattle.sheet.proofs.Lists.{by-test}
+use Rattle.words.proofs.Lists.{by-test}
 use Rattle.sheet.proofs.Facts.{waiting-most, never-all, mask-low}
 use Rattle.sheet.proofs.Sizes.{writes, sizeFits, size-ok, out-open, run-low, waiting-in}
 use Rattle.sheet.proofs.Sizes as sizes

@@ -28,7 +28,7 @@ pub record Demand1 (M : Machine) : Type 0 where
 -- "Number 8 is given exactly otherwise, and never for a state reached by calls from reset." Nor does a change fall on a key out of the size
 pub record NeverUnsound (M : Machine) : Type 0 where
   pub never : (cs : List Call) → all fits cs ≡ true → M .sound (after M cs) ≡ true
-  pub nowhere : (cs : List Call) → all fits cs ≡ true → (s : List ℕ) → M .astray (after M cs) s ≡ false
+  pub nowhere : (cs : List Call) (s : List ℕ) → M .astray (after M cs) s ≡ false
 
 unfoldable pub bytesOf : ℕ → ℕ → Past → List ℕ
 bytesOf a zero past = []
@@ -37,7 +37,7 @@ bytesOf a (suc n) past = sheet.byteOf (registerAt a) past ∷ bytesOf (next a) n
 -- "2. Held keys, fetched bytes, flags and the interrupt line are what the LM8328 data sheet, as narrowed by document 01,
 -- gives for the looks and bus accesses made so far. That holds for setting registers as well as for fetching them."
 pub record Demand2 (M : Machine) : Type 0 where
-  pub bytes : (cs : List Call) → all fits cs ≡ true → (a : ℕ) (out : List ℕ) → M .does (after M cs) (read a out) .number ≡ 0
+  pub bytes : (cs : List Call) (a : ℕ) (out : List ℕ) → M .does (after M cs) (read a out) .number ≡ 0
       → M .does (after M cs) (read a out) .buffer ≡ bytesOf a (length out) (done M cs)
   pub keys : (cs : List Call) → all fits cs ≡ true → (row col : ℕ) → row ≤ 7 → col ≤ 12
       → M .does (after M cs) (held row col) .answer ≡ sheet.held (13 * row + col) (done M cs)

@@ -1,8 +1,8 @@
 -- The keypad flags and the interrupt line. Nothing of this is stored but the four flags.
 --
 --    weigh f w    w where the flag f is set, else 0
---    ris m        what KBDRIS reads
---    mis m        what KBDMIS reads
+--    ris m        what KBDRIS reads; risOf of its parts
+--    mis m        what KBDMIS reads; misOf of its parts
 --    line m       the interrupt line is asserted
 use Prim.Native.Nat.{ℕ, _+_}
 use mathlib.Core.Bool.{Bool, not, _||_}
@@ -15,16 +15,22 @@ unfoldable pub weigh : Bool → ℕ → ℕ
 weigh f w = w if f else 0
 
 -- "bit 3 RELINT, 2 REVTINT, 1 RKLINT, 0 RSINT; the rest 0"; "REVTINT is 1 exactly while a code waits"
+abbrev pub risOf : Bool → ℕ → Bool → Bool → ℕ
+risOf relint count rklint rsint = weigh relint 8 + weigh (waits count) 4 + weigh rklint 2 + weigh rsint 1
+
 unfoldable pub ris : Module → ℕ
-ris m = weigh (m .relint) 8 + weigh (waits (m .count)) 4 + weigh (m .rklint) 2 + weigh (m .rsint) 1
+ris m = risOf (m .relint) (m .count) (m .rklint) (m .rsint)
 
 -- "KBDRIS with the bits set in KBDMSK made 0"
+abbrev pub misOf : Bool → ℕ → Bool → Bool → ℕ → ℕ
+misOf relint count rklint rsint mask =
+    weigh (without 3 relint mask) 8
+    + weigh (without 2 (waits count) mask) 4
+    + weigh (without 1 rklint mask) 2
+    + weigh (without 0 rsint mask) 1
+
 unfoldable pub mis : Module → ℕ
-mis m =
-    weigh (without 3 (m .relint) (m .mask)) 8
-    + weigh (without 2 (waits (m .count)) (m .mask)) 4
-    + weigh (without 1 (m .rklint) (m .mask)) 2
-    + weigh (without 0 (m .rsint) (m .mask)) 1
+mis m = misOf (m .relint) (m .count) (m .rklint) (m .rsint) (m .mask)
 
 -- "The interrupt line is asserted exactly when PORIRQ is set or KBDMIS isn't 0."
 unfoldable pub line : Module → Bool

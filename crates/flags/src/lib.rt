@@ -33,25 +33,23 @@ pub fn cleared(flag: bool, bit: u8, byte: u8) -> bool
     flag
 }
 
-// What KBDRIS reads.
-pub fn ris(m: Module) -> u8
-    ensures { λ r. ⌜ r ≡ is.ris m ⌝ }
+// What KBDRIS reads, by the parts of the state that it shows.
+pub fn ris(relint: bool, count: u8, rklint: bool, rsint: bool) -> u8
+    ensures { λ r. ⌜ r ≡ is.risOf relint count rklint rsint ⌝ }
 {
-    let count = m.count;
-    byte(m.relint, 0 < count, m.rklint, m.rsint)
+    byte(relint, 0 < count, rklint, rsint)
 }
 
-// What KBDMIS reads.
-pub fn mis(m: Module) -> u8
-    ensures { λ r. ⌜ r ≡ is.mis m ⌝ }
+// What KBDMIS reads, by the same parts and the mask.
+pub fn mis(relint: bool, count: u8, rklint: bool, rsint: bool, mask: u8) -> u8
+    ensures { λ r. ⌜ r ≡ is.misOf relint count rklint rsint mask ⌝ }
 {
-    let count = m.count;
-    let mask = m.mask;
-    let relint = cleared(m.relint, 3, mask);
-    let revtint = cleared(0 < count, 2, mask);
-    let rklint = cleared(m.rklint, 1, mask);
-    let rsint = cleared(m.rsint, 0, mask);
-    byte(relint, revtint, rklint, rsint)
+    byte(
+        cleared(relint, 3, mask),
+        cleared(0 < count, 2, mask),
+        cleared(rklint, 1, mask),
+        cleared(rsint, 0, mask),
+    )
 }
 
 // Is the interrupt line asserted?
@@ -62,5 +60,5 @@ pub fn line(m: Module) -> bool
     if porirq {
         return true;
     }
-    mis(m) != 0
+    mis(m.relint, m.count, m.rklint, m.rsint, m.mask) != 0
 }

@@ -1,22 +1,29 @@
 -- Laws of keys.
 --
---    key-yes, no-row              there is such a key, or there is none
+--    key-yes, no-row, no-col      there is such a key, or there is none
 --    key-row, key-col             row and column of a key are in range
 --    press-none, press-some       the code tells whether there is such a key; press-low: it is at most 0x7F
 --    row-yes, col-yes             row and column of a key number; row-none, col-none: of no key
 --    row-low, col-low             they are in range; key-low: and so is the number of a key
+--    place-row, place-col         row and column of the key that stands there
 --    key-back, back-row, back-col    the key number, and back
 --    press-is, release-is         the codes of a key
 --    code-key                     the key of a change's code is the key that changed
+--    code-low                     a press is at most 0x7F
+--    sample-out                   out of the size a sample counts as open
+--    rows-most                    an acceptable size has at most 8 rows
+--    code-in                      by its row and column, or by the number of its key, a code is of a key in the size
 -- Assumes nothing.
 use Prim.Native.Nat.{ℕ, _+_, _*_, _/_, _%_, _≤_, _<_}
+use native.Mathlib.Decide.{decLe}
 use native.Mathlib.Omega.{arith}
 use mathlib.Core.Path.{_≡_, refl, sym, ap, _∙_}
-use mathlib.Core.Bool.{Bool, true, false}
-use borrow.Author.Tests.{le-leb, lt-leb, lt-ltb, le-ltb, leb-true}
-use lib.Dec.{leb}
+use mathlib.Core.Bool.{Bool, true, false, _&&_, _||_, and-false}
+use mathlib.Core.List.{List}
+use borrow.Author.Tests.{le-leb, lt-leb, lt-ltb, le-ltb, leb-true, ne-eqb}
+use lib.Dec.{leb, ltb}
 use Rattle.words.proofs.Laws.{and-left, and-right}
-use Rattle.keys.specs.Keys.{isKey, keyAt, rowOf, colOf, pressCode, releaseCode, code, keyOf}
+use Rattle.keys.specs.Keys.{isKey, keyAt, rowOf, colOf, pressCode, releaseCode, code, keyOf, acceptable, inSize, keyIn, sample}
 
 module _ (row col : ℕ) where
   pub key-yes : row ≤ 7 → col ≤ 12 → isKey row col ≡ true
@@ -26,6 +33,10 @@ module _ (row col : ℕ) where
   pub no-row : 7 < row → isKey row col ≡ false
   unfolding isKey
   no-row h = rw (lt-leb row 7 h)
+
+  pub no-col : 12 < col → isKey row col ≡ false
+  unfolding isKey
+  no-col h = rw (lt-leb col 12 h) (and-false (leb row 7))
 
   pub key-row : isKey row col ≡ true → row ≤ 7
   unfolding isKey
@@ -95,17 +106,24 @@ module _ (k : ℕ) where
       rw (key-yes (rowOf k) (colOf k) (row-low h) (col-low h)) (omega arith)
 
 module _ (row col : ℕ) (h : row ≤ 7) (l : col ≤ 12) where
-  pub key-low : keyAt row col < 104
+  pub place-row : rowOf (13 * row + col) ≡ row
+  place-row = row-yes (13 * row + col) (omega arith) ∙ omega arith
+
+  pub place-col : colOf (13 * row + col) ≡ col
+  place-col = col-yes (13 * row + col) (omega arith) ∙ omega arith
+
+  key-place : keyAt row col ≡ 13 * row + col
   unfolding keyAt
-  key-low = rw (key-yes row col h l) (omega arith)
+  key-place = rw (key-yes row col h l)
+
+  pub key-low : keyAt row col < 104
+  key-low = rw key-place (omega arith)
 
   pub back-row : rowOf (keyAt row col) ≡ row
-  unfolding keyAt
-  back-row = let lo = key-low in let e : keyAt row col ≡ 13 * row + col = rw (key-yes row col h l) in row-yes (keyAt row col) lo ∙ rw e (omega arith)
+  back-row = rw key-place place-row
 
   pub back-col : colOf (keyAt row col) ≡ col
-  unfolding keyAt
-  back-col = let lo = key-low in let e : keyAt row col ≡ 13 * row + col = rw (key-yes row col h l) in col-yes (keyAt row col) lo ∙ rw e (omega arith)
+  back-col = rw key-place place-col
 
   pub press-is : pressCode row col ≡ 16 * row + col
   unfolding pressCode
@@ -132,3 +150,44 @@ code-key k false h =
     let row : releaseCode (rowOf k) (colOf k) % 128 / 16 ≡ rowOf k = omega arith in
     let col : releaseCode (rowOf k) (colOf k) % 16 ≡ colOf k = omega arith in
     rw (row, col) (key-back k h)
+
+pub code-low : (k : ℕ) → code k true ≤ 0x7F
+unfolding code
+code-low k = press-low (rowOf k) (colOf k)
+
+pub sample-out : (s : List ℕ) (size k : ℕ) → keyIn size k ≡ false → sample s size k ≡ false
+unfolding sample
+sample-out s size k e = rw e
+
+module _ (size : ℕ) (ok : acceptable size ≡ true) where
+  pub rows-most : size / 16 ≤ 8
+  unfolding acceptable
+  rows-most = leb-true (size / 16) 8 (and-right (leb 2 (size / 16)) _ (and-left (leb 2 (size / 16) && leb (size / 16) 8) _ ok))
+
+  cols-most : size % 16 ≤ 12
+  unfolding acceptable
+  cols-most = leb-true (size % 16) 12 (and-right (leb 2 (size % 16)) _ (and-right (leb 2 (size / 16) && leb (size / 16) 8) _ ok))
+
+  module _ (b : ℕ) where
+    no-key : 12 < b % 16 → keyAt (b % 128 / 16) (b % 16) ≡ 104
+    unfolding keyAt
+    no-key h = rw (no-col (b % 128 / 16) (b % 16) h)
+
+    not-in : 12 < b % 16 → inSize size (b % 128 / 16) (b % 16) ≡ false
+    unfolding inSize
+    not-in h =
+        let c = cols-most in
+        rw (le-ltb (b % 16) (size % 16) (omega arith), ne-eqb (b % 16) 12 (λ e. omega arith)) (and-false (ltb (b % 128 / 16) (size / 16)))
+
+    none-in : inSize size 8 13 ≡ false
+    unfolding inSize
+    none-in = rw (le-ltb 8 (size / 16) rows-most)
+
+    -- a byte whose low four bits are above 12 is no code, and no key that it could speak of is in the size
+    pub code-in : inSize size (b % 128 / 16) (b % 16) ≡ keyIn size (keyOf b)
+    unfolding keyIn keyOf
+    code-in = go (decLe (b % 16) 12)
+      where
+        go : Dec (b % 16 ≤ 12) → inSize size (b % 128 / 16) (b % 16) ≡ inSize size (rowOf (keyAt (b % 128 / 16) (b % 16))) (colOf (keyAt (b % 128 / 16) (b % 16)))
+        go (yes l) = rw (back-row (b % 128 / 16) (b % 16) (omega arith) l, back-col (b % 128 / 16) (b % 16) (omega arith) l)
+        go (no l) = let h : 12 < b % 16 = omega arith in not-in h ∙ rw (no-key h, row-none 104 (omega arith), col-none 104 (omega arith)) (sym none-in)

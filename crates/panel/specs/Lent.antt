@@ -1,16 +1,19 @@
--- What the three lent forms promise: the number and what everything lent holds when the call returns.
+-- What the five lent forms promise: the number, and what everything lent to be altered holds when the call returns.
 --
---    LookLent m s number after             a look with samples s, lent the module m
---    WriteLent m a bs number after         a write of the bytes bs at the address a
---    ReadLent m a out number after bytes   a read at the address a into the buffer out, which then holds these bytes
+--    LookLent m s number after              a look with samples s, lent the module m
+--    WriteLent m a bs number after          a write of the bytes bs at the address a
+--    ReadLent m a out number after bytes    a read at the address a into the buffer out, which then holds these bytes
+--    HeldLent m row col number answer       is the key at this row and column held? m is lent to be looked at only
+--    LineLent m number answer               is the interrupt line asserted? m is lent to be looked at only
 --
--- The contracts in src/ are these three lines, and proofs/Determined.antt says that each allows one outcome only.
+-- The contracts in src/ are these five lines, and proofs/Determined.antt says that each allows one outcome only.
 use Prim.Native.Nat.{ℕ}
 use mathlib.Core.Path.{_≡_}
+use mathlib.Core.Bool.{Bool}
 use mathlib.Core.List.{List}
 use lib.ListN.{length}
 use Rattle.state.specs.declared.Module.{Module}
-use Rattle.calls.specs.Calls.{lookCall, writeCall, readCall, readBuffer}
+use Rattle.calls.specs.Calls.{lookCall, writeCall, readCall, readBuffer, heldCall, lineCall}
 
 abbrev pub LookLent : Module → List ℕ → ℕ → Module → Type 0
 LookLent m s number after = (number ≡ lookCall m s .number) × (after ≡ lookCall m s .after)
@@ -21,3 +24,9 @@ WriteLent m a bs number after = (number ≡ writeCall m a bs .number) × (after 
 abbrev pub ReadLent : Module → ℕ → List ℕ → ℕ → Module → List ℕ → Type 0
 ReadLent m a out number after bytes =
     (number ≡ readCall m a (length out) .number) × (after ≡ readCall m a (length out) .after) × (bytes ≡ readBuffer m a out)
+
+abbrev pub HeldLent : Module → ℕ → ℕ → ℕ → Bool → Type 0
+HeldLent m row col number answer = (number ≡ heldCall m row col .number) × (answer ≡ heldCall m row col .yes)
+
+abbrev pub LineLent : Module → ℕ → Bool → Type 0
+LineLent m number answer = (number ≡ lineCall m .number) × (answer ≡ lineCall m .yes)

@@ -1,12 +1,11 @@
-// The face: look, write and read over a module that is lent, and all six calls for C (include/panel.h).
-use calls::Answered;
+// The face for C (include/panel.h): reset by value, and the other five calls over a module that is lent.
 use calls::Done;
 use keys::Col;
 use keys::Row;
 use state::Module;
 ghost use mathlib.Core.Path.{_≡_};
-ghost use Rattle.calls.specs.Calls.{resetCall, heldCall, lineCall};
-ghost use Rattle.panel.specs.Lent.{LookLent, WriteLent, ReadLent};
+ghost use Rattle.calls.specs.Calls.{resetCall};
+ghost use Rattle.panel.specs.Lent.{LookLent, WriteLent, ReadLent, HeldLent, LineLent};
 
 // One look; the module is altered where it is.
 #[no_mangle]
@@ -46,18 +45,22 @@ pub extern "C" fn panel_reset_value() -> Done
     calls::reset()
 }
 
-// Is this key held? By value.
+// Is this key held? The module is lent to be looked at only.
 #[no_mangle]
-pub extern "C" fn panel_held_value(m: Module, row: Row, col: Col) -> Answered
-    ensures { λ r. ⌜ r ≡ heldCall m (row .0) (col .0) ⌝ }
+pub extern "C" fn panel_held(m: &Module, row: Row, col: Col, yes: &mut bool) -> u8
+    ensures { λ r. ⌜ HeldLent (now (m .entry)) (row .0) (col .0) r (now (yes .exit)) ⌝ }
 {
-    calls::held(m, row, col)
+    let r = calls::held(*m, row, col);
+    *yes = r.yes;
+    r.number
 }
 
-// Is the interrupt line asserted? By value.
+// Is the interrupt line asserted? The module is lent to be looked at only.
 #[no_mangle]
-pub extern "C" fn panel_interrupt_value(m: Module) -> Answered
-    ensures { λ r. ⌜ r ≡ lineCall m ⌝ }
+pub extern "C" fn panel_interrupt(m: &Module, yes: &mut bool) -> u8
+    ensures { λ r. ⌜ LineLent (now (m .entry)) r (now (yes .exit)) ⌝ }
 {
-    calls::interrupt(m)
+    let r = calls::interrupt(*m);
+    *yes = r.yes;
+    r.number
 }

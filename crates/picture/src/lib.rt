@@ -1,9 +1,10 @@
 // The picture, and which of its registers were read.
-use state::Module;
 ghost use mathlib.Core.Path.{_≡_};
 ghost use mathlib.Core.Bool.{true};
-ghost use lib.ListN.{set, drop};
+ghost use lib.ListN.{length, set, drop};
 ghost use Prim.Native.Nat.{_≤_};
+ghost use Rattle.state.specs.declared.Module.{Module};
+ghost use Rattle.state.specs.Module.{withRsint, withSeen};
 ghost use Rattle.picture.specs.Picture as is;
 
 // Are all four registers marked as read?
@@ -35,25 +36,24 @@ fn with_mark(seen: [bool; 4], n: u8) -> [bool; 4]
     seen
 }
 
-// The state once picture register n has been read.
-pub fn marked(m: Module, n: u8) -> Module
-    ensures { λ r. ⌜ r ≡ is.marked m n ⌝ }
+// Picture register n has been read: it is marked; once all four are, RSINT is cleared and they are forgotten.
+pub fn mark(rsint: &mut bool, seen: &mut [bool; 4], n: u8)
+    ensures { λ _. ⌜ ((m : Module) → withSeen (withRsint m (now (rsint .exit))) (now (seen .exit)) ≡ is.marked (withSeen (withRsint m (now (rsint .entry))) (now (seen .entry))) n) ⌝ }
 {
-    let seen = m.seen;
-    let marks = with_mark(seen, n);
-    let mut next = m;
+    let old = *seen;
+    let marks = with_mark(old, n);
     if all_read(marks) {
-        next.rsint = false;
-        next.seen = [false; 4];
-        return next;
+        *rsint = false;
+        *seen = [false; 4];
+        return;
     }
-    next.seen = marks;
-    next
+    *seen = marks;
 }
 
 // Is a key from this one on held? 128 where one is, else 0.
-fn more(table: [bool; 104], from: usize) -> u8
-    ensures { λ r. ⌜ (r ≡ is.more (is.heldCodes from (drop from table))) × (r ≤ 128) ⌝ }
+fn more(table: &[bool], from: usize) -> u8
+    requires { ⌜ length (now table) ≡ 104 ⌝ }
+    ensures { λ r. ⌜ (r ≡ is.more (is.heldCodes from (drop from (now (table .entry))))) × (r ≤ 128) ⌝ }
 {
     let mut k = from;
     while k < 104 {
@@ -66,8 +66,9 @@ fn more(table: [bool; 104], from: usize) -> u8
 }
 
 // What picture register n shows of a table of held keys.
-fn shown(table: [bool; 104], n: u8) -> u8
-    ensures { λ r. ⌜ r ≡ is.picture n table ⌝ }
+fn shown(table: &[bool], n: u8) -> u8
+    requires { ⌜ length (now table) ≡ 104 ⌝ }
+    ensures { λ r. ⌜ r ≡ is.picture n (now (table .entry)) ⌝ }
 {
     let mut k: usize = 0;
     let mut rest = n;
@@ -87,6 +88,7 @@ fn shown(table: [bool; 104], n: u8) -> u8
 pub fn picture(held: &[bool; 104], n: u8) -> u8
     ensures { λ r. ⌜ r ≡ is.picture n (now (held .entry)) ⌝ }
 {
-    let table = *held;
+    // a slice's length is known
+    let table: &[bool] = held;
     shown(table, n)
 }

@@ -1,23 +1,24 @@
 -- Laws of a look.
 --
---    sample-in, sample-out      a key's sample, in the size and out of it
 --    putAll-none                with no code to put the queue stays as it is
 --    below-more                 one key more
 --    below-queue, below-some    what one key more does to the queue, and to whether there is a change
 --    looked-noticed             the state after a look: keys and queue, and the flags where there is a change
 --    fits m s k                 key k is in the size, or doesn't change
---    stray-found, stray-none    a change falls on a key out of the size, and none does
+--    stray-none                 no change falls on a key out of the size
 --    no-strays                  none does where the keys out of the size are open and have no run
 -- Assumes nothing.
 use Prim.Native.Nat.{ℕ, _+_, _<_}
 use native.Mathlib.Numerals.{add-one}
 use mathlib.Core.Path.{_≡_, refl, sym, ap, _∙_}
-use mathlib.Core.Bool.{Bool, true, false, not, _||_, or-true, or-false}
+use mathlib.Core.Bool.{Bool, true, false, not, _||_}
 use mathlib.Core.List.{List, [], _∷_, _++_, append-nil}
 use lib.ListN.{getD}
-use Rattle.words.specs.Words.{_if_, _else_, allBelow, bit, some}
-use Rattle.words.proofs.Laws.{true-false, below-all, below-fails}
-use Rattle.keys.specs.Keys.{rowOf, colOf, code, keyIn, sample}
+use Rattle.words.specs.Words.{_if_, _else_, allBelow, some}
+use Rattle.words.proofs.Laws.{true-false, below-all}
+use Rattle.words.proofs.Lists.{some-append}
+use Rattle.keys.specs.Keys.{code, keyIn, sample}
+use Rattle.keys.proofs.Laws.{sample-out}
 use Rattle.contact.specs.Contact.{opposite, stepped}
 use Rattle.state.specs.declared.Module.{Module}
 use Rattle.state.specs.Module.{Queue, queueOf, withQueue}
@@ -25,28 +26,15 @@ use Rattle.state.specs.Queue.{put, putAll}
 use Rattle.state.proofs.Laws.{putAll-snoc}
 use Rattle.scan.specs.Scan.{contactAt, changesBelow, changes, strays, contacts, noticed, looked}
 
-module _ (s : List ℕ) (size k : ℕ) where
-  pub sample-in : keyIn size k ≡ true → sample s size k ≡ bit (colOf k) (getD s (rowOf k) 0)
-  unfolding sample
-  sample-in e = rw e
-
-  pub sample-out : keyIn size k ≡ false → sample s size k ≡ false
-  unfolding sample
-  sample-out e = rw e
-
 -- of one code more, or none
 putAll-if : (q : Queue) (cs : List ℕ) (c : ℕ) (b : Bool) → putAll q (cs ++ ((c ∷ []) if b else [])) ≡ (put (putAll q cs) c if b else putAll q cs)
 putAll-if q cs c true = putAll-snoc q cs c
 putAll-if q cs c false = ap (putAll q) (append-nil cs)
 
-some-snoc : (cs : List ℕ) (c : ℕ) → some (cs ++ (c ∷ [])) ≡ true
-unfolding some
-some-snoc [] c = refl
-some-snoc (d ∷ cs) c = refl
-
 some-if : (cs : List ℕ) (c : ℕ) (b : Bool) → some (cs ++ ((c ∷ []) if b else [])) ≡ (some cs || b)
-some-if cs c true = some-snoc cs c ∙ sym (or-true (some cs))
-some-if cs c false = ap some (append-nil cs) ∙ sym (or-false (some cs))
+unfolding some
+some-if cs c true = some-append cs (c ∷ [])
+some-if cs c false = some-append cs []
 
 pub putAll-none : (q : Queue) (cs : List ℕ) → some cs ≡ false → putAll q cs ≡ q
 unfolding putAll some
@@ -86,10 +74,6 @@ module _ (m : Module) (s : List ℕ) where
   fits-still : (k : ℕ) → keyIn (m .size) k ≡ false → (getD (m .held) k false ≡ false) × (getD (m .run) k 0 ≡ 0) → fits k ≡ true
   unfolding fits contactAt stepped opposite
   fits-still k e still = rw (e, still .0, still .1, sample-out s (m .size) k e)
-
-  pub stray-found : (k : ℕ) → k < 104 → fits k ≡ false → strays m s ≡ true
-  unfolding strays fits
-  stray-found k h e = rw (below-fails fits 104 k h e)
 
   pub stray-none : allBelow fits 104 ≡ true → strays m s ≡ false
   unfolding strays fits

@@ -1,100 +1,157 @@
--- The code's walk over the keys.
+-- The code's walk over the keys, row by row.
 --
---    Walked m s k h r q a   the keys below k are done: arrays h and r, queue q, and whether a key has changed
---    walked-none            before the first key
---    walked-next            from one key to the next
---    walked-all             after the last key this is the state after the look
---    fits-next              from one key that is no stray to the next
+--    row-none, row-next     a row before its first key, and from one key to the next
+--    done m s k             what a look alters, once the keys below k are done
+--    done-none              before the first key
+--    done-row               from a row's first key to the next row's
+--    done-rest              the rows out of the size are still
+--    done-all               after the last key this is the state after the look
+--    out-first              the keys of a row before `firstOut` fit
+--    fits-row               from one row to the next: no key of it is a stray
 --    fits-fails, fits-all   a stray is found, and none is found
 -- Assumes nothing.
-use Prim.Native.Nat.{ℕ, _+_, _<_}
-use mathlib.Core.Path.{_≡_, refl, sym, ap, ap₂, _∙_}
-use mathlib.Core.Bool.{Bool, true, false, not, _||_}
+use Prim.Native.Nat.{ℕ, zero, suc, _+_, _-_, _*_, _/_, _%_, _<_, _≤_}
+use native.Mathlib.Numerals.{add-one, unary-clauses}
+use native.Mathlib.Omega.{arith}
+use mathlib.Core.Path.{_≡_, refl, sym, ap, _∙_}
+use mathlib.Core.Bool.{Bool, true, false, not, or-false}
 use mathlib.Core.List.{List}
 use lib.ListN.{length, getD, set}
-use borrow.Author.Tests.{not-true, not-false}
+use lib.Dec.{ltb}
+use lib.Seq.{set-getD}
+use borrow.Author.Tests.{lt-ltb, le-ltb, not-true, not-false}
 use Rattle.words.specs.Words.{_if_, _else_, allBelow, some, table}
-use Rattle.words.proofs.Laws.{below-next}
+use Rattle.words.proofs.Laws.{below-all}
 use Rattle.words.proofs.Tables.{replaced, replaced-none, replaced-all, replaced-at, replaced-next}
-use Rattle.keys.specs.Keys.{code, sample}
-use Rattle.contact.specs.declared.Contact.{Contact}
-use Rattle.contact.specs.Contact.{stepped}
+use Rattle.keys.specs.Keys.{inSize, keyIn, sample}
+use Rattle.keys.proofs.Laws.{place-row, place-col, row-yes, sample-out}
+use Rattle.keys.proofs.Rows.{row-goes, row-stops}
+use Rattle.contact.specs.Contact.{opposite, stepped}
 use Rattle.state.specs.declared.Module.{Module}
-use Rattle.state.specs.Module.{Queue, queueOf, withKeys, withQueue}
-use Rattle.state.specs.Queue.{put, putAll}
+use Rattle.state.specs.Module.{queueOf, withKeys, withQueue}
+use Rattle.state.specs.Queue.{putAll}
 use Rattle.scan.specs.Scan.{contactAt, changesBelow, changes, strays, contacts, noticed, looked}
-use Rattle.scan.proofs.Laws.{below-queue, below-some, looked-noticed, fits, stray-found, stray-none}
+use Rattle.scan.specs.Walk.{Parts, parts, counted, became, atKey, atRow, firstOut, fitsAt, Still}
+use Rattle.scan.proofs.Laws.{below-queue, below-some, looked-noticed, fits, stray-none}
 
-pub record Walked (m : Module) (s : List ℕ) (k : ℕ) (h : List Bool) (r : List ℕ) (q : Queue) (a : Bool) : Type 0 where
-  pub held : h ≡ replaced (λ j. contactAt m s j .held) k (m .held)
-  pub run : r ≡ replaced (λ j. contactAt m s j .run) k (m .run)
-  pub queue : q ≡ putAll (queueOf m) (changesBelow m s k)
-  pub any : a ≡ some (changesBelow m s k)
+module _ (d size x row : ℕ) (p : Parts) where
+  pub row-none : p ≡ atRow d size x row p 0
+  unfolding atRow
+  row-none = refl
 
-pub walked-none : (m : Module) (s : List ℕ) → Walked m s 0 (m .held) (m .run) (queueOf m) false
-unfolding changesBelow putAll some
-walked-none m s = record { held = sym (replaced-none _ (m .held)); run = sym (replaced-none _ (m .run)); queue = refl; any = refl }
+  pub row-next : (col : ℕ) {q r : Parts} {closed : Bool} → q ≡ atRow d size x row p col → closed ≡ counted x size row col → r ≡ atKey d (13 * row + col) closed q → r ≡ atRow d size x row p (col + 1)
+  unfolding atRow
+  row-next col e f g = rw (add-one col) (g ∙ (λ i. atKey d (13 * row + col) (f i) (e i)))
 
-module _ {m : Module} {s : List ℕ} {k : ℕ} {h : List Bool} {r : List ℕ} {q : Queue} {a : Bool} (w : Walked m s k h r q a) where
-  module _ (in-held : k < length (m .held)) (in-run : k < length (m .run)) where
-    -- the step from the arrays as they are now is the step from the module's own
-    step-now : {closed : Bool} → closed ≡ sample s (m .size) k → stepped (getD h k false) (getD r k 0) closed (m .bounce) ≡ contactAt m s k
-    unfolding contactAt
-    step-now {closed} e =
-        ap₂ (λ (x : Bool) (n : ℕ). stepped x n closed (m .bounce))
-        (ap (λ (l : List Bool). getD l k false) (w .held) ∙ replaced-at _ (m .held) k in-held false)
-        (ap (λ (l : List ℕ). getD l k 0) (w .run) ∙ replaced-at _ (m .run) k in-run 0)
-        ∙ ap (λ (c : Bool). stepped (getD (m .held) k false) (getD (m .run) k 0) c (m .bounce)) e
-
-    step-queue : (x : Contact) (closed : Bool) → x ≡ contactAt m s k → closed ≡ sample s (m .size) k → (put q (code k closed) if x .changed else q) ≡ putAll (queueOf m) (changesBelow m s (k + 1))
-    step-queue x closed ex e =
-        ap₂ (λ (p : Queue) (c : ℕ). put p c if x .changed else p) (w .queue) (ap (code k) e)
-        ∙ ap (λ (y : Contact). put (putAll (queueOf m) (changesBelow m s k)) (code k (sample s (m .size) k)) if y .changed else putAll (queueOf m) (changesBelow m s k)) ex
-        ∙ sym (below-queue m s k (queueOf m))
-
-    pub walked-next : {closed : Bool} {h′ : List Bool} {r′ : List ℕ} {q′ : Queue} {a′ : Bool} → closed ≡ sample s (m .size) k
-        → (let x = stepped (getD h k false) (getD r k 0) closed (m .bounce) in
-        (h′ ≡ set h k (x .held)) × ((r′ ≡ set r k (x .run)) × ((q′ ≡ (put q (code k closed) if x .changed else q)) × (a′ ≡ (a || x .changed)))))
-        → Walked m s (k + 1) h′ r′ q′ a′
-    walked-next {closed} e t =
-        let x = step-now e in
-        record {
-          held = t .0 ∙ ap₂ (λ (l : List Bool) (y : Contact). set l k (y .held)) (w .held) x ∙ replaced-next _ (m .held) k in-held;
-          run = t .1 .0 ∙ ap₂ (λ (l : List ℕ) (y : Contact). set l k (y .run)) (w .run) x ∙ replaced-next _ (m .run) k in-run;
-          queue = t .1 .1 .0 ∙ step-queue _ closed x e;
-          any = t .1 .1 .1 ∙ ap₂ (λ (b : Bool) (y : Contact). b || y .changed) (w .any) x ∙ sym (below-some m s k);
-        }
-
-module _ {m : Module} {s : List ℕ} {k : ℕ} {h : List Bool} {r : List ℕ} {q : Queue} {a : Bool} (w : Walked m s k h r q a) (all : k ≡ 104) where
-  queue-all : q ≡ putAll (queueOf m) (changes m s)
-  unfolding changes
-  queue-all = w .queue ∙ ap (λ (n : ℕ). putAll (queueOf m) (changesBelow m s n)) all
-
-  any-all : some (changes m s) ≡ a
-  unfolding changes
-  any-all = sym (w .any ∙ ap (λ (n : ℕ). some (changesBelow m s n)) all)
-
-  module _ (long-held : length (m .held) ≡ 104) (long-run : length (m .run) ≡ 104) where
-    held-all : h ≡ table (λ j. contactAt m s j .held) 104
-    held-all = w .held ∙ ap (λ (n : ℕ). replaced (λ j. contactAt m s j .held) n (m .held)) all ∙ replaced-all _ (m .held) 104 long-held
-
-    run-all : r ≡ table (λ j. contactAt m s j .run) 104
-    run-all = w .run ∙ ap (λ (n : ℕ). replaced (λ j. contactAt m s j .run) n (m .run)) all ∙ replaced-all _ (m .run) 104 long-run
-
-    walked-state : withQueue (withKeys m h r) q ≡ withQueue (contacts m s) (putAll (queueOf m) (changes m s))
-    unfolding contacts
-    walked-state = λ i. withQueue (withKeys m (held-all i) (run-all i)) (queue-all i)
-
-    pub walked-all : (b : Bool) → a ≡ b → (noticed (withQueue (withKeys m h r) q) if b else withQueue (withKeys m h r) q) ≡ looked m s
-    walked-all b e = ap (λ (n : Module). noticed n if b else n) walked-state ∙ sym (looked-noticed m s b (any-all ∙ e))
+abbrev pub done : Module → List ℕ → ℕ → Parts
+done m s k = parts (replaced (λ j. contactAt m s j .held) k (m .held)) (replaced (λ j. contactAt m s j .run) k (m .run)) (putAll (queueOf m) (changesBelow m s k)) (some (changesBelow m s k))
 
 module _ (m : Module) (s : List ℕ) where
-  module _ (k : ℕ) {b : Bool} where
-    pub fits-next : allBelow (fits m s) k ≡ true → b ≡ not (fits m s k) → b ≡ false → allBelow (fits m s) (k + 1) ≡ true
-    fits-next below e f = below-next (fits m s) k below (not-false (fits m s k) (sym e ∙ f))
+  pub done-none : parts (m .held) (m .run) (queueOf m) false ≡ done m s 0
+  unfolding changesBelow putAll some
+  done-none = λ i. parts (sym (replaced-none (λ j. contactAt m s j .held) (m .held)) i) (sym (replaced-none (λ j. contactAt m s j .run) (m .run)) i) (queueOf m) false
 
-    pub fits-fails : k < 104 → b ≡ not (fits m s k) → b ≡ true → true ≡ strays m s
-    fits-fails h e f = sym (stray-found m s k h (not-true (fits m s k) (sym e ∙ f)))
+  module _ (k : ℕ) (in-held : k < length (m .held)) (in-run : k < length (m .run)) where
+    -- the step from the arrays as they are now is the step from the module's own
+    step-now : stepped (getD (done m s k .held) k false) (getD (done m s k .run) k 0) (sample s (m .size) k) (m .bounce) ≡ contactAt m s k
+    unfolding contactAt
+    step-now = rw (replaced-at (λ j. contactAt m s j .held) (m .held) k in-held false, replaced-at (λ j. contactAt m s j .run) (m .run) k in-run 0)
+
+    done-next : atKey (m .bounce) k (sample s (m .size) k) (done m s k) ≡ done m s (k + 1)
+    unfolding atKey
+    done-next =
+        ap (became k (sample s (m .size) k) (done m s k)) step-now
+        ∙ (λ i. parts (replaced-next (λ j. contactAt m s j .held) (m .held) k in-held i) (replaced-next (λ j. contactAt m s j .run) (m .run) k in-run i) (sym (below-queue m s k (queueOf m)) i) (sym (below-some m s k) i))
+
+  module _ (row : ℕ) (h : row < 8) where
+    row-sample : (col : ℕ) → col < 13 → counted (getD s row 0) (m .size) row col ≡ sample s (m .size) (13 * row + col)
+    unfolding counted sample keyIn
+    row-sample col l = rw (place-row row col (omega arith) (omega arith), place-col row col (omega arith) (omega arith))
+
+    module _ (long-held : length (m .held) ≡ 104) (long-run : length (m .run) ≡ 104) where
+      done-below : (n : ℕ) → n ≤ 13 → atRow (m .bounce) (m .size) (getD s row 0) row (done m s (13 * row)) n ≡ done m s (13 * row + n)
+      unfolding atRow
+      done-below zero l = simp unary-clauses
+      done-below (suc n) l =
+          (λ i. atKey (m .bounce) (13 * row + n) (row-sample n (omega arith) i) (done-below n (omega arith) i))
+          ∙ done-next (13 * row + n) (omega arith) (omega arith) ∙ ap (done m s) (omega arith)
+
+      pub done-row : {p q : Parts} → p ≡ done m s (13 * row) → q ≡ atRow (m .bounce) (m .size) (getD s row 0) row p 13 → q ≡ done m s (13 * (row + 1))
+      done-row e f = f ∙ ap (λ (o : Parts). atRow (m .bounce) (m .size) (getD s row 0) row o 13) e ∙ done-below 13 (omega arith) ∙ ap (done m s) (omega arith)
+
+  module _ (still : Still m) (long-held : length (m .held) ≡ 104) (long-run : length (m .run) ≡ 104) where
+    module _ (k : ℕ) (low : 13 * (m .size / 16) ≤ k) (h : k < 104) where
+      out : keyIn (m .size) k ≡ false
+      unfolding keyIn inSize
+      out = rw (row-yes k h, le-ltb (k / 13) (m .size / 16) (omega arith))
+
+      -- an open contact with no run stays so while its sample is open
+      at-rest : contactAt m s k ≡ record { held = false; run = 0; changed = false }
+      unfolding contactAt stepped opposite
+      at-rest = rw (still .keys k h out .0, still .keys k h out .1, sample-out s (m .size) k out)
+
+      done-still : done m s k ≡ done m s (k + 1)
+      unfolding atKey
+      done-still =
+          (λ i. parts (sym (stays-held) i) (sym (stays-run) i) (putAll (queueOf m) (changesBelow m s k)) (sym (or-false (some (changesBelow m s k))) i))
+          ∙ ap (became k (sample s (m .size) k) (done m s k)) (sym (step-now k (omega arith) (omega arith) ∙ at-rest)) ∙ done-next k (omega arith) (omega arith)
+        where
+          stays-held : set (done m s k .held) k false ≡ done m s k .held
+          stays-held = ap (set (done m s k .held) k) (sym (replaced-at (λ j. contactAt m s j .held) (m .held) k (omega arith) false ∙ still .keys k h out .0)) ∙ set-getD (done m s k .held) k false
+
+          stays-run : set (done m s k .run) k 0 ≡ done m s k .run
+          stays-run = ap (set (done m s k .run) k) (sym (replaced-at (λ j. contactAt m s j .run) (m .run) k (omega arith) 0 ∙ still .keys k h out .1)) ∙ set-getD (done m s k .run) k 0
+
+    done-on : (n : ℕ) → 13 * (m .size / 16) + n ≤ 104 → done m s (13 * (m .size / 16)) ≡ done m s (13 * (m .size / 16) + n)
+    done-on zero l = simp unary-clauses
+    done-on (suc n) l = done-on n (omega arith) ∙ done-still (13 * (m .size / 16) + n) (omega arith) (omega arith) ∙ ap (done m s) (omega arith)
+
+    pub done-rest : (row : ℕ) → row ≡ m .size / 16 → {p : Parts} → p ≡ done m s (13 * row) → p ≡ done m s 104
+    done-rest row all e = let few = still .rows in e ∙ ap (λ (r : ℕ). done m s (13 * r)) all ∙ done-on (104 - 13 * (m .size / 16)) (omega arith) ∙ ap (done m s) (omega arith)
+
+  module _ {p : Parts} {k : ℕ} (e : p ≡ done m s k) (all : k ≡ 104) (long-held : length (m .held) ≡ 104) (long-run : length (m .run) ≡ 104) where
+    done-parts : p ≡ parts (table (λ j. contactAt m s j .held) 104) (table (λ j. contactAt m s j .run) 104) (putAll (queueOf m) (changes m s)) (some (changes m s))
+    unfolding changes
+    done-parts = e ∙ ap (done m s) all ∙ (λ i. parts (replaced-all (λ j. contactAt m s j .held) (m .held) 104 long-held i) (replaced-all (λ j. contactAt m s j .run) (m .run) 104 long-run i) (putAll (queueOf m) (changesBelow m s 104)) (some (changesBelow m s 104)))
+
+    done-state : withQueue (withKeys m (p .held) (p .run)) (p .queue) ≡ withQueue (contacts m s) (putAll (queueOf m) (changes m s))
+    unfolding contacts
+    done-state = ap (λ (o : Parts). withQueue (withKeys m (o .held) (o .run)) (o .queue)) done-parts
+
+    pub done-all : (b : Bool) → p .any ≡ b → (noticed (withQueue (withKeys m (p .held) (p .run)) (p .queue)) if b else withQueue (withKeys m (p .held) (p .run)) (p .queue)) ≡ looked m s
+    done-all b f = ap (λ (n : Module). noticed n if b else n) done-state ∙ sym (looked-noticed m s b (sym (ap (λ (o : Parts). o .any) done-parts) ∙ f))
+
+module _ (held : List Bool) (run : List ℕ) (size d row : ℕ) where
+  first-in : (col : ℕ) → col < firstOut size row → inSize size row col ≡ true
+  unfolding firstOut inSize
+  first-in col l = go (ltb row (size / 16)) refl
+    where
+      go : (b : Bool) → ltb row (size / 16) ≡ b → inSize size row col ≡ true
+      go true e = let low : col < size % 16 = rw e at l in rw (e, lt-ltb col (size % 16) low)
+      go false e = let none : col < 0 = rw e at l in absurd (omega arith)
+
+  pub out-first : allBelow (fitsAt held run size d row) (firstOut size row) ≡ true
+  unfolding fitsAt
+  out-first = below-all (fitsAt held run size d row) (firstOut size row) (λ col l. rw (first-in col l))
+
+module _ (m : Module) (s : List ℕ) where
+  module _ (row : ℕ) (h : row < 8) where
+    -- out of the size a sample counts as open
+    fits-place : (col : ℕ) → col < 13 → fits m s (13 * row + col) ≡ fitsAt (m .held) (m .run) (m .size) (m .bounce) row col
+    unfolding fits fitsAt contactAt keyIn sample
+    fits-place col l = go (inSize (m .size) row col) refl
+      where
+        go : (b : Bool) → inSize (m .size) row col ≡ b → fits m s (13 * row + col) ≡ fitsAt (m .held) (m .run) (m .size) (m .bounce) row col
+        go true e = rw (place-row row col (omega arith) (omega arith), place-col row col (omega arith) (omega arith), e)
+        go false e = rw (place-row row col (omega arith) (omega arith), place-col row col (omega arith) (omega arith), e)
+
+    module _ {b : Bool} (below : allBelow (fits m s) (13 * row) ≡ true) (e : b ≡ not (allBelow (fitsAt (m .held) (m .run) (m .size) (m .bounce) row) 13)) where
+      pub fits-row : b ≡ false → allBelow (fits m s) (13 * (row + 1)) ≡ true
+      fits-row f = row-goes (fits m s) (fitsAt (m .held) (m .run) (m .size) (m .bounce) row) row h fits-place below (not-false _ (sym e ∙ f))
+
+      pub fits-fails : b ≡ true → true ≡ strays m s
+      unfolding strays fits
+      fits-fails f = rw (row-stops (fits m s) (fitsAt (m .held) (m .run) (m .size) (m .bounce) row) row h fits-place below (not-true _ (sym e ∙ f)))
 
   pub fits-all : (k : ℕ) → k ≡ 104 → allBelow (fits m s) k ≡ true → false ≡ strays m s
   fits-all k all below = sym (stray-none m s (sym (ap (allBelow (fits m s)) all) ∙ below))

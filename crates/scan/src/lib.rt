@@ -1,29 +1,29 @@
 // What one look does to a module.
+use keys::Col;
+use keys::Row;
 use state::Module;
 ghost use mathlib.Core.Path.{_≡_};
 ghost use mathlib.Core.Bool.{false, not, _||_};
-ghost use Prim.Native.Nat.{_<_};
-ghost use lib.ListN.{length, getD, set};
-ghost use Rattle.words.specs.Words.{_if_, _else_};
-ghost use Rattle.keys.specs.Keys.{code, keyIn, sample};
+ghost use mathlib.Core.List.{List};
+ghost use Prim.Native.Nat.{ℕ, _<_};
+ghost use lib.ListN.{length};
+ghost use Rattle.words.specs.Words.{allBelow};
+ghost use Rattle.keys.specs.Keys.{inSize};
 ghost use Rattle.contact.specs.Contact.{stepped};
 ghost use Rattle.state.specs.Module.{queue};
-ghost use Rattle.state.specs.Queue.{put};
 ghost use Rattle.scan.specs.Scan as is;
+ghost use Rattle.scan.specs.Walk as walk;
+ghost use Rattle.scan.specs.Walk.{parts};
 
-// Is a key closed in this look? Out of the size it counts as open.
-fn is_closed(samples: &[u16], size: u8, key: usize) -> bool
-    requires { ⌜ (length (now samples) ≡ 8) × (key < 104) ⌝ }
-    ensures { λ r. ⌜ r ≡ sample (now (samples .entry)) size key ⌝ }
+// Is a key closed, by its row's sample? Out of the size it counts as open.
+fn is_closed(sample: u16, size: u8, row: u8, col: u8) -> bool
+    requires { ⌜ col < 13 ⌝ }
+    ensures { λ r. ⌜ r ≡ walk.counted sample size row col ⌝ }
 {
-    if !keys::is_key_in(size, key) {
+    if !keys::is_in_size(size, Row(row), Col(col)) {
         return false;
     }
-    let row = keys::row_of(key);
-    let col = keys::col_of(key);
-    let r = row.0;
-    let c = col.0;
-    (samples[r as usize] >> c) % 2 == 1
+    (sample >> col) % 2 == 1
 }
 
 // What a look does to one key, to the queue, and to whether a key has changed.
@@ -39,12 +39,7 @@ fn look_at(
     bounce: u8,
 )
     requires { ⌜ key < 104 ⌝ }
-    ensures { λ _. ⌜ (let x = stepped (getD (now (held .entry)) key false) (getD (now (run .entry)) key 0) closed bounce in
-        let q = queue (now (places .entry)) (now (count .entry)) (now (relint .entry)) in
-        (now (held .exit) ≡ set (now (held .entry)) key (x .held))
-        × ((now (run .exit) ≡ set (now (run .entry)) key (x .run))
-        × ((queue (now (places .exit)) (now (count .exit)) (now (relint .exit)) ≡ (put q (code key closed) if x .changed else q))
-        × (now (any .exit) ≡ (now (any .entry) || x .changed))))) ⌝ }
+    ensures { λ _. ⌜ parts (now (held .exit)) (now (run .exit)) (queue (now (places .exit)) (now (count .exit)) (now (relint .exit))) (now (any .exit)) ≡ walk.atKey bounce key closed (parts (now (held .entry)) (now (run .entry)) (queue (now (places .entry)) (now (count .entry)) (now (relint .entry))) (now (any .entry))) ⌝ }
 {
     let x = contact::step(held[key], run[key], closed, bounce);
     held[key] = x.held;
@@ -55,6 +50,31 @@ fn look_at(
         state::queue::put(places, count, relint, code);
         *any = true;
         return;
+    }
+}
+
+// What a look does to the keys of a row, by column.
+fn look_at_row(
+    held: &mut [bool; 104],
+    run: &mut [u8; 104],
+    places: &mut [u8; 15],
+    count: &mut u8,
+    relint: &mut bool,
+    any: &mut bool,
+    row: u8,
+    sample: u16,
+    size: u8,
+    bounce: u8,
+)
+    requires { ⌜ row < 8 ⌝ }
+    ensures { λ _. ⌜ parts (now (held .exit)) (now (run .exit)) (queue (now (places .exit)) (now (count .exit)) (now (relint .exit))) (now (any .exit)) ≡ walk.atRow bounce size sample row (parts (now (held .entry)) (now (run .entry)) (queue (now (places .entry)) (now (count .entry)) (now (relint .entry))) (now (any .entry))) 13 ⌝ }
+{
+    let mut col: u8 = 0;
+    while col < 13 {
+        let key = 13 * (row as usize) + (col as usize);
+        let closed = is_closed(sample, size, row, col);
+        look_at(held, run, places, count, relint, any, key, closed, bounce);
+        col = col + 1;
     }
 }
 
@@ -69,9 +89,9 @@ fn noticed(m: Module) -> Module
     after
 }
 
-// What one look does to a module.
+// What one look does to a module. Rows out of the size are still, and are not walked.
 pub fn looked(m: Module, samples: &[u16]) -> Module
-    requires { ⌜ length (now samples) ≡ 8 ⌝ }
+    requires { ⌜ (length (now samples) ≡ 8) × walk.Still m ⌝ }
     ensures { λ r. ⌜ r ≡ is.looked m (now (samples .entry)) ⌝ }
 {
     let mut held = m.held;
@@ -80,21 +100,22 @@ pub fn looked(m: Module, samples: &[u16]) -> Module
     let mut count = m.count;
     let mut relint = m.relint;
     let mut any = false;
-    let mut key: usize = 0;
-    while key < 104 {
-        let closed = is_closed(samples, m.size, key);
-        look_at(
+    let rows = m.size / 16;
+    let mut row: u8 = 0;
+    while row < rows {
+        look_at_row(
             &mut held,
             &mut run,
             &mut places,
             &mut count,
             &mut relint,
             &mut any,
-            key,
-            closed,
+            row,
+            samples[row as usize],
+            m.size,
             m.bounce,
         );
-        key = key + 1;
+        row = row + 1;
     }
     let mut after = m;
     after.held = held;
@@ -108,30 +129,62 @@ pub fn looked(m: Module, samples: &[u16]) -> Module
     after
 }
 
-// Is a key out of the size, and does it change?
-fn is_stray(held: bool, run: u8, samples: &[u16], size: u8, bounce: u8, key: usize) -> bool
-    requires { ⌜ (length (now samples) ≡ 8) × (key < 104) ⌝ }
-    ensures { λ r. ⌜ r ≡ not (keyIn size key || not (stepped held run (sample (now (samples .entry)) size key) bounce .changed)) ⌝ }
+// The columns of a row that are in the size before the first that isn't, or more.
+fn first_out(size: u8, row: u8) -> u8
+    ensures { λ r. ⌜ r ≡ walk.firstOut size row ⌝ }
 {
-    if keys::is_key_in(size, key) {
+    if size / 16 <= row {
+        return 0;
+    }
+    size % 16
+}
+
+// Is a key out of the size, and does it change with an open sample? Only a held key does.
+fn is_stray(held: bool, run: u8, size: u8, bounce: u8, row: u8, col: u8) -> bool
+    ensures { λ r. ⌜ r ≡ not (inSize size row col || not (stepped held run false bounce .changed)) ⌝ }
+{
+    if !held {
         return false;
     }
-    let closed = is_closed(samples, size, key);
-    let x = contact::step(held, run, closed, bounce);
+    if keys::is_in_size(size, Row(row), Col(col)) {
+        return false;
+    }
+    let x = contact::step(held, run, false, bounce);
     x.changed
 }
 
-// Does a change fall on a key out of the size?
-pub fn has_strays(m: Module, samples: &[u16]) -> bool
-    requires { ⌜ length (now samples) ≡ 8 ⌝ }
-    ensures { λ r. ⌜ r ≡ is.strays m (now (samples .entry)) ⌝ }
+// Is a key of this row out of the size, and does it change? Its sample counts as open.
+fn row_has_strays<'a>(
+    held: &'a [bool; 104],
+    run: &'a [u8; 104],
+    size: u8,
+    bounce: u8,
+    row: u8,
+) -> bool
+    requires { ⌜ row < 8 ⌝ }
+    ensures { λ r. ⌜ r ≡ not (allBelow (walk.fitsAt (now (held .entry)) (now (run .entry)) size bounce row) 13) ⌝ }
 {
-    let mut k: usize = 0;
-    while k < 104 {
-        if is_stray(m.held[k], m.run[k], samples, m.size, m.bounce, k) {
+    let mut col = first_out(size, row);
+    while col < 13 {
+        let key = 13 * (row as usize) + (col as usize);
+        if is_stray(held[key], run[key], size, bounce, row, col) {
             return true;
         }
-        k = k + 1;
+        col = col + 1;
+    }
+    false
+}
+
+// Does a change fall on a key out of the size? Samples there count as open, whatever they are.
+pub fn has_strays(m: Module) -> bool
+    ensures { λ r. ⌜ ((samples : List ℕ) → r ≡ is.strays m samples) ⌝ }
+{
+    let mut row: u8 = 0;
+    while row < 8 {
+        if row_has_strays(&m.held, &m.run, m.size, m.bounce, row) {
+            return true;
+        }
+        row = row + 1;
     }
     false
 }

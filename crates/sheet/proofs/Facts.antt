@@ -29,7 +29,7 @@ use Rattle.registers.specs.declared.Register.{Register}
 use Rattle.registers.specs.declared.Register.the-variants.{KBDBOUNCE, KBDSIZE, KBDRIS, KBDMIS, KBDIC, KBDMSK, KBDCODE, EVTCODE, RSTINTCLR, Unknown}
 use Rattle.registers.specs.Registers.{_is_, pictured, afterReset}
 use Rattle.sheet.specs.Sheet.{Past, looked, wrote, got, bounce, size, mask, changed, change, changesBelow, changes, waiting, oldest, relint, allRead, marks, rsint, rklint, flags, revtint, ris, mis, history, held, heldBelow, nth, picture, byteOf}
-use Rattle.sheet.proofs.Lists.{by-test, all-none, all-one, all-append, all-take, all-drop, take-most}
+use Rattle.words.proofs.Lists.{by-test, all-none, all-one, all-append, all-take, all-drop, take-most}
 
 pub code-is : (k : ℕ) (closed : Bool) → k < 104 → isCode (code k closed) ≡ true
 unfolding isCode keyOf keyAt

@@ -19,7 +19,7 @@ use Rattle.registers.specs.declared.Register.the-variants.{KBDSIZE, EVTCODE}
 use Rattle.registers.specs.Registers.{_is_}
 use Rattle.sheet.specs.Sheet.{Past, looked, wrote, got, changes, waiting, oldest, byteOf}
 use Rattle.sheet.specs.Ledger.{codeGot, taken, Arrival, arriving, codes, kept, lost, coming, arrivals, demanded}
-use Rattle.sheet.proofs.Lists.{by-test, take-room}
+use Rattle.words.proofs.Lists.{by-test, take-room}
 use Rattle.sheet.proofs.Facts.{waiting-most, waiting-codes, code-real}
 use Rattle.sheet.proofs.Arrivals.{codes-append, kept-append, codes-arriving, kept-arriving, all-kept}
 

@@ -1,4 +1,3 @@
-pub mod Lists
 pub mod Facts
 pub mod Arrivals
 pub mod Ledger

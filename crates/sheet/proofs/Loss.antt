@@ -15,7 +15,7 @@ use Rattle.registers.specs.declared.Register.the-variants.{KBDSIZE, KBDIC}
 use Rattle.registers.specs.Registers.{_is_}
 use Rattle.sheet.specs.Sheet.{Past, looked, wrote, got, cleared, changes, waiting, relint}
 use Rattle.sheet.specs.Ledger.{taken, Arrival, kept, lost, coming, arrivals, unreported, acknowledged}
-use Rattle.sheet.proofs.Lists.{some-append}
+use Rattle.words.proofs.Lists.{some-append}
 use Rattle.sheet.proofs.Facts.{waiting-most}
 use Rattle.sheet.proofs.Arrivals.{lost-append, lost-arriving}
 use Rattle.sheet.proofs.Ledger.{ledger, count-waiting}

@@ -24,7 +24,7 @@ use Rattle.registers.specs.declared.Register.the-variants.{KBDSIZE}
 use Rattle.registers.specs.Registers.{_is_}
 use Rattle.sheet.specs.Sheet.{Past, looked, wrote, got, bounce, size, history, held, changed, change, changesBelow, changes, waiting}
 use Rattle.sheet.specs.Ledger.{taken, lost, arrivals, demanded}
-use Rattle.sheet.proofs.Lists.{by-test}
+use Rattle.words.proofs.Lists.{by-test}
 use Rattle.sheet.proofs.Ledger.{none-lost}
 
 -- ---- one look

@@ -3,7 +3,6 @@
 --    writes f past                 f is true of every byte written, with its register
 --    byteFits, sizeFits            the byte fits a byte; if it is for KBDSIZE, it is acceptable
 --    bounce-low, size-ok           where they all do, so do the settings
---    sample-out                    out of the size a sample counts as open
 --    out-open                      out of the size nothing is held and the run is 0
 --    out-still, changed-in         so no key out of the size changes: one that changes is in it
 --    run-low                       no run is above 254, where every byte written fits a byte
@@ -20,7 +19,7 @@ use lib.ListN.{drop}
 use Rattle.words.specs.Words.{_if_, _else_, all}
 use Rattle.words.proofs.Laws.{true-false, and-left, and-right, all-cons}
 use Rattle.keys.specs.Keys.{keyOf, acceptable, keyIn, sample}
-use Rattle.keys.proofs.Laws.{code-key}
+use Rattle.keys.proofs.Laws.{code-key, sample-out}
 use Rattle.contact.specs.declared.Contact.{Contact}
 use Rattle.contact.specs.Contact.{opposite, Seen, samples, heldAfter, runOf, stepped}
 use Rattle.contact.proofs.Laws as contact
@@ -28,7 +27,7 @@ use Rattle.registers.specs.declared.Register.{Register}
 use Rattle.registers.specs.declared.Register.the-variants.{KBDBOUNCE, KBDSIZE, EVTCODE}
 use Rattle.registers.specs.Registers.{_is_}
 use Rattle.sheet.specs.Sheet.{Past, looked, wrote, got, bounce, size, history, held, changed, changes, waiting}
-use Rattle.sheet.proofs.Lists.{by-test, all-none, all-append, all-take, all-drop}
+use Rattle.words.proofs.Lists.{by-test, all-none, all-append, all-take, all-drop}
 use Rattle.sheet.proofs.Facts.{changes-all}
 
 -- ---- the bytes written
@@ -64,10 +63,6 @@ size-ok (wrote r b ∷ past) h =
 size-ok (got r ∷ past) h = size-ok past h
 
 -- ---- a key out of the size
-pub sample-out : (s : List ℕ) (size k : ℕ) → keyIn size k ≡ false → sample s size k ≡ false
-unfolding sample
-sample-out s size k e = rw e
-
 -- an open contact that reads open stays as it is
 rest : Contact
 rest = record { held = false; run = 0; changed = false }

@@ -2,18 +2,27 @@
 --
 --    sound-facts, facts-sound    computed or as facts, it is the same
 --    fresh-sound                 the state after reset is sound
+--    sound-out                   a key out of the size is open and has no run
+--    rows-go, rows-stop          a row of keys is sound, or one is not
 -- Assumes nothing.
-use mathlib.Core.Path.{_≡_, refl, ap}
-use mathlib.Core.Bool.{true, not}
-use borrow.Author.Tests.{le-leb, leb-true, not-true}
+use Prim.Native.Nat.{ℕ, _+_, _*_, _<_}
+use native.Mathlib.Omega.{arith}
+use mathlib.Core.Path.{_≡_, refl, sym, ap, _∙_}
+use mathlib.Core.Bool.{Bool, true, false, not, _&&_, _||_}
+use mathlib.Core.List.{List}
+use lib.ListN.{getD}
+use lib.Dec.{eqb}
+use borrow.Author.Tests.{le-leb, leb-true, eqb-true, not-true}
 use Rattle.words.specs.Words.{every, all, allBelow}
-use Rattle.words.proofs.Laws.{every-none, every-first, every-rest, every-cons, all-below, below-all}
+use Rattle.words.proofs.Laws.{and-left, and-right, every-none, every-first, every-rest, every-cons, all-below, below-all}
 use Rattle.keys.specs.Keys.{acceptable, rowOf, colOf, inSize, keyIn}
+use Rattle.keys.proofs.Laws.{place-row, place-col}
+use Rattle.keys.proofs.Rows.{row-goes, row-stops}
 use Rattle.state.specs.declared.Module.{Module}
 use Rattle.state.specs.Module.{fresh, forgotten}
 use Rattle.state.specs.Queue.{waiting}
 use Rattle.picture.specs.Picture.{allRead}
-use Rattle.sound.specs.Sound.{keySound, keysSound, codesSound, restUnused, sound, Sound}
+use Rattle.sound.specs.Sound.{keySound, placeSound, keysSound, codesSound, restUnused, sound, Sound}
 
 pub sound-facts : (m : Module) → sound m ≡ true → Sound m
 unfolding sound keysSound
@@ -48,3 +57,23 @@ facts-sound m h =
 pub fresh-sound : sound fresh ≡ true
 unfolding sound keySound keysSound codesSound restUnused every all allBelow acceptable keyIn inSize rowOf colOf waiting allRead fresh forgotten
 fresh-sound = refl
+
+pub sound-out : (m : Module) → sound m ≡ true → (k : ℕ) → k < 104 → keyIn (m .size) k ≡ false → (getD (m .held) k false ≡ false) × (getD (m .run) k 0 ≡ 0)
+unfolding keySound
+sound-out m e k h out =
+    let rest : (not (getD (m .held) k false) && eqb (getD (m .run) k 0) 0) ≡ true = rw out at (and-left (keyIn (m .size) k || (not (getD (m .held) k false) && eqb (getD (m .run) k 0) 0)) _ (sound-facts m e .keys k h)) in
+    (not-true _ (and-left (not (getD (m .held) k false)) _ rest), eqb-true _ _ (and-right (not (getD (m .held) k false)) _ rest))
+
+-- the keys of the rows below are sound, and b tells whether those of this row are
+module _ (size : ℕ) (held : List Bool) (run : List ℕ) (row : ℕ) (h : row < 8) where
+  key-place : (col : ℕ) → col < 13 → keySound size (13 * row + col) (getD held (13 * row + col) false) (getD run (13 * row + col) 0) ≡ placeSound size row held run col
+  unfolding keySound placeSound keyIn
+  key-place col l = rw (place-row row col (omega arith) (omega arith), place-col row col (omega arith) (omega arith))
+
+  module _ {b : Bool} (below : allBelow (λ k. keySound size k (getD held k false) (getD run k 0)) (13 * row) ≡ true) (e : b ≡ allBelow (placeSound size row held run) 13) where
+    pub rows-go : b ≡ true → allBelow (λ k. keySound size k (getD held k false) (getD run k 0)) (13 * (row + 1)) ≡ true
+    rows-go f = row-goes (λ k. keySound size k (getD held k false) (getD run k 0)) (placeSound size row held run) row h key-place below (sym e ∙ f)
+
+    pub rows-stop : b ≡ false → false ≡ keysSound size held run
+    unfolding keysSound
+    rows-stop f = sym (row-stops (λ k. keySound size k (getD held k false) (getD run k 0)) (placeSound size row held run) row h key-place below (sym e ∙ f))

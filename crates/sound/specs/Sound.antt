@@ -1,26 +1,34 @@
 -- "A state is sound when:"
 --
---    keySound size k held run    what is asked of key k; keysSound: of all keys
---    codesSound size q           what is asked of the codes that wait
---    restUnused q                what is asked of the places after them
---    sound m                     the state is sound, computed
---    Sound m                     the same as facts, a field for each
-use Prim.Native.Nat.{ℕ, _≤_, _<_}
+--    contactSound within held run    what is asked of a contact, within the size or not
+--    keySound size k held run        what is asked of key k; placeSound: of the key in a row and column; keysSound: of all keys
+--    codesSound size q               what is asked of the codes that wait
+--    restUnused q                    what is asked of the places after them
+--    sound m                         the state is sound, computed
+--    Sound m                         the same as facts, a field for each
+use Prim.Native.Nat.{ℕ, _+_, _*_, _≤_, _<_}
 use mathlib.Core.Path.{_≡_}
 use mathlib.Core.Bool.{Bool, true, false, not, _&&_, _||_}
 use mathlib.Core.List.{List, [], _∷_}
 use lib.ListN.{getD, drop}
 use lib.Dec.{leb, eqb}
 use Rattle.words.specs.Words.{every, all, allBelow}
-use Rattle.keys.specs.Keys.{acceptable, keyOf, keyIn}
+use Rattle.keys.specs.Keys.{acceptable, keyOf, inSize, keyIn}
 use Rattle.state.specs.declared.Module.{Module}
 use Rattle.state.specs.Module.{Queue, queueOf}
 use Rattle.state.specs.Queue.{waiting}
 use Rattle.picture.specs.Picture.{allRead}
 
 -- "no key out of the size is held or has a run of samples remembered; no run is above 254"
+abbrev pub contactSound : Bool → Bool → ℕ → Bool
+contactSound within held run = (within || (not held && eqb run 0)) && leb run 254
+
 unfoldable pub keySound : ℕ → ℕ → Bool → ℕ → Bool
-keySound size k held run = (keyIn size k || (not held && eqb run 0)) && leb run 254
+keySound size k held run = contactSound (keyIn size k) held run
+
+-- the same by the key's row and column, as the code walks them
+unfoldable pub placeSound : ℕ → ℕ → List Bool → List ℕ → ℕ → Bool
+placeSound size row held run col = contactSound (inSize size row col) (getD held (13 * row + col) false) (getD run (13 * row + col) 0)
 
 unfoldable pub keysSound : ℕ → List Bool → List ℕ → Bool
 keysSound size held run = allBelow (λ k. keySound size k (getD held k false) (getD run k 0)) 104

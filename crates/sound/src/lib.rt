@@ -1,8 +1,13 @@
 // Soundness, as document 01 lists it.
+use keys::Col;
+use keys::Row;
 use state::Module;
 ghost use mathlib.Core.Path.{_≡_};
-ghost use mathlib.Core.Bool.{false, not, _&&_};
+ghost use mathlib.Core.Bool.{true, false, not, _&&_};
+ghost use Prim.Native.Nat.{_<_};
 ghost use lib.Dec.{eqb};
+ghost use Rattle.words.specs.Words.{allBelow};
+ghost use Rattle.keys.specs.Keys.{acceptable, inSize, keyIn, keyOf};
 ghost use Rattle.state.specs.Module.{queue};
 ghost use Rattle.sound.specs.Sound as is;
 
@@ -17,8 +22,8 @@ fn at_rest(held: bool, run: u8) -> bool
 }
 
 // What is asked of one key. Most are at rest, and need no look at the size.
-fn key_sound(size: u8, key: usize, held: bool, run: u8) -> bool
-    ensures { λ r. ⌜ r ≡ is.keySound size key held run ⌝ }
+fn key_sound(size: u8, row: u8, col: u8, held: bool, run: u8) -> bool
+    ensures { λ r. ⌜ r ≡ is.contactSound (inSize size row col) held run ⌝ }
 {
     if 254 < run {
         return false;
@@ -26,25 +31,50 @@ fn key_sound(size: u8, key: usize, held: bool, run: u8) -> bool
     if at_rest(held, run) {
         return true;
     }
-    keys::is_key_in(size, key)
+    keys::is_in_size(size, Row(row), Col(col))
 }
 
-// What is asked of all keys.
-pub fn keys_sound<'a>(size: u8, held: &'a [bool; 104], run: &'a [u8; 104]) -> bool
-    ensures { λ r. ⌜ r ≡ is.keysSound size (now (held .entry)) (now (run .entry)) ⌝ }
+// What is asked of the keys of a row.
+fn row_sound<'a>(size: u8, row: u8, held: &'a [bool; 104], run: &'a [u8; 104]) -> bool
+    requires { ⌜ row < 8 ⌝ }
+    ensures { λ r. ⌜ r ≡ allBelow (is.placeSound size row (now (held .entry)) (now (run .entry))) 13 ⌝ }
 {
-    let mut k: usize = 0;
-    while k < 104 {
-        if !key_sound(size, k, held[k], run[k]) {
+    let mut col: u8 = 0;
+    while col < 13 {
+        let key = 13 * (row as usize) + (col as usize);
+        if !key_sound(size, row, col, held[key], run[key]) {
             return false;
         }
-        k = k + 1;
+        col = col + 1;
     }
     true
 }
 
+// What is asked of all keys.
+fn keys_sound<'a>(size: u8, held: &'a [bool; 104], run: &'a [u8; 104]) -> bool
+    ensures { λ r. ⌜ r ≡ is.keysSound size (now (held .entry)) (now (run .entry)) ⌝ }
+{
+    let mut row: u8 = 0;
+    while row < 8 {
+        if !row_sound(size, row, held, run) {
+            return false;
+        }
+        row = row + 1;
+    }
+    true
+}
+
+// What is asked of a code that waits. Its low four bits are the column, the next three the row.
+fn code_sound(size: u8, code: u8) -> bool
+    requires { ⌜ acceptable size ≡ true ⌝ }
+    ensures { λ r. ⌜ r ≡ keyIn size (keyOf code) ⌝ }
+{
+    keys::is_in_size(size, Row(code % 128 / 16), Col(code % 16))
+}
+
 // What is asked of the codes that wait.
-pub fn codes_sound(size: u8, places: &[u8; 15], count: u8) -> bool
+fn codes_sound(size: u8, places: &[u8; 15], count: u8) -> bool
+    requires { ⌜ acceptable size ≡ true ⌝ }
     ensures { λ r. ⌜ r ≡ is.codesSound size (queue (now (places .entry)) count false) ⌝ }
 {
     // a slice's length is known
@@ -54,7 +84,7 @@ pub fn codes_sound(size: u8, places: &[u8; 15], count: u8) -> bool
         if count as usize <= i {
             return true;
         }
-        if !keys::is_key_in(size, keys::key_of(bytes[i])) {
+        if !code_sound(size, bytes[i]) {
             return false;
         }
         i = i + 1;
@@ -63,7 +93,7 @@ pub fn codes_sound(size: u8, places: &[u8; 15], count: u8) -> bool
 }
 
 // What is asked of the places after them.
-pub fn rest_unused(places: &[u8; 15], count: u8) -> bool
+fn rest_unused(places: &[u8; 15], count: u8) -> bool
     ensures { λ r. ⌜ r ≡ is.restUnused (queue (now (places .entry)) count false) ⌝ }
 {
     // a slice's length is known

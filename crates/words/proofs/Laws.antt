@@ -9,16 +9,18 @@
 --    all-stops, all-goes
 --    all-below, below-all                 `allBelow` as a statement about every number
 --    below-next, below-fails              one number more, and a number of which it is false
+--    below-fewer, below-still             true below fewer, and false below more
+--    below-split, below-same              the numbers below a and those from a on; of functions that are alike below n
 --    all-end, all-stop-at, all-go-at      a list walked from the front: its end, an item that decides, one that is passed
 --    front-end, front-stops, front-goes   the same of the list's first n items
 -- Assumes nothing.
 use Prim.Native.Nat.{ℕ, zero, suc, _+_, _<_, _≤_, min}
 use native.Mathlib.Nat.{not-suc-le-zero}
 use native.Mathlib.Decide.{decLt}
-use native.Mathlib.Numerals.{add-one}
+use native.Mathlib.Numerals.{add-one, unary-clauses}
 use native.Mathlib.Omega.{arith}
 use mathlib.Core.Path.{_≡_, refl, sym, ap, _∙_}
-use mathlib.Core.Bool.{Bool, true, false, _&&_, true≢false, and-true, and-false}
+use mathlib.Core.Bool.{Bool, true, false, _&&_, true≢false, and-true, and-false, and-assoc}
 use mathlib.Core.List.{List, [], _∷_}
 use lib.ListN.{length, getD, take, drop, length-take, drop-of-length-le}
 use lib.Seq.{drop-cons, getD-take}
@@ -117,6 +119,26 @@ module _ (f : ℕ → Bool) where
       go : (b : Bool) → allBelow f n ≡ b → allBelow f n ≡ false
       go true p = true-false (sym (all-below n p k l) ∙ e)
       go false p = p
+
+  pub below-fewer : (n k : ℕ) → k ≤ n → allBelow f n ≡ true → allBelow f k ≡ true
+  below-fewer n k l e = below-all k (λ j h. all-below n e j (omega arith))
+
+  pub below-still : (n k : ℕ) → n ≤ k → allBelow f n ≡ false → allBelow f k ≡ false
+  below-still n k l e = go (allBelow f k) refl
+    where
+      go : (b : Bool) → allBelow f k ≡ b → allBelow f k ≡ false
+      go true p = true-false (sym (below-fewer k n l p) ∙ e)
+      go false p = p
+
+  pub below-split : (a n : ℕ) → allBelow f (a + n) ≡ (allBelow f a && allBelow (λ j. f (a + j)) n)
+  unfolding allBelow
+  below-split a zero = simp unary-clauses (sym (and-true (allBelow f a)))
+  below-split a (suc n) = simp unary-clauses (ap (λ (b : Bool). b && f (a + n)) (below-split a n) ∙ and-assoc (allBelow f a) (allBelow (λ j. f (a + j)) n) (f (a + n)))
+
+  pub below-same : (g : ℕ → Bool) (n : ℕ) → ((k : ℕ) → k < n → f k ≡ g k) → allBelow f n ≡ allBelow g n
+  unfolding allBelow
+  below-same g zero h = refl
+  below-same g (suc n) h = rw (below-same g n (λ k l. h k (omega arith)), h n (omega arith))
 
 -- a list that is walked from the front: what is left of it at place i
 module _ {A : Type 0} (f : A → Bool) (l : List A) (i : ℕ) where

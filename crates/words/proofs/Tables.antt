@@ -2,6 +2,7 @@
 --
 --    table-length, table-at        a table's length and items
 --    table-same                    tables of functions that are alike below n are the same
+--    table-front                   a table of one value, from the front
 --    replaced f k l                the list l, its first k items replaced by those of the table of f
 --    replaced-none, replaced-all   none replaced, and all
 --    replaced-at                   the next item is still the list's own
@@ -11,7 +12,7 @@ use Prim.Native.Nat.{ℕ, zero, suc, _+_, _<_}
 use native.Mathlib.Decide.{decLt}
 use native.Mathlib.Numerals.{add-one}
 use native.Mathlib.Omega.{arith}
-use mathlib.Core.Path.{_≡_, refl, sym, _∙_}
+use mathlib.Core.Path.{_≡_, refl, sym, ap, _∙_}
 use mathlib.Core.List.{List, [], _∷_, _++_, append-nil}
 use lib.ListN.{length, getD, set, drop, length-append, List·getD-append, drop-of-length-le}
 use lib.Seq.{drop-cons, append-snoc, set-at, getD-at}
@@ -36,6 +37,11 @@ module _ {A : Type 0} (f : ℕ → A) where
   unfolding table
   table-same g zero h = refl
   table-same g (suc n) h = rw (table-same g n (λ k l. h k (omega arith)), h n (omega arith))
+
+pub table-front : {A : Type 0} (c : A) (n : ℕ) → table (λ _. c) (suc n) ≡ c ∷ table (λ _. c) n
+unfolding table
+table-front c zero = refl
+table-front {A = A} c (suc n) = ap (λ (l : List A). l ++ (c ∷ [])) (table-front c n)
 
 unfoldable pub replaced : {A : Type 0} → (ℕ → A) → ℕ → List A → List A
 replaced f k l = table f k ++ drop k l

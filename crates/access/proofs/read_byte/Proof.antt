@@ -1,8 +1,9 @@
--- `access::read_byte` meets its contract: each arm by the register that its match told.
+-- `access::read_byte` meets its contract: each arm by the register that its match told, and by what the parts lent on came back as.
 -- Assumes nothing.
-use mathlib.Core.Path.{_∙_, sym}
-use Rattle.access.specs.Bytes.{byteOf, readOut, readByte}
-use Rattle.access.proofs.Laws.{read-by}
+use mathlib.Core.Path.{refl}
+use Rattle.flags.specs.Flags.{ris, mis}
+use Rattle.access.specs.Bytes.{byteOf, readOut}
+use Rattle.access.proofs.Laws.{read-by, shown-code, taken-code}
 use borrow.Author.Needs.{needs}
 use Rattle.access.proofs.read_byte.Statement.{statement}
 use Rattle.access.proofs.read_byte.Tie as tie
@@ -37,14 +38,14 @@ enum-known-register c = search needs
 picture-requires : tie.Need-picture-requires
 picture-requires c κs = search needs
 
-marked-requires : tie.Need-marked-requires
-marked-requires c κs = search needs
+mark-requires : tie.Need-mark-requires
+mark-requires c κs = search needs
 
 enum-told-7 : tie.Need-enum-told-7
 enum-told-7 c = search needs
 
-take-code-requires : tie.Need-take-code-requires
-take-code-requires c κs = search needs
+take-oldest-requires : tie.Need-take-oldest-requires
+take-oldest-requires c κs = search needs
 
 enum-told-8 : tie.Need-enum-told-8
 enum-told-8 c = search needs
@@ -53,50 +54,42 @@ enum-told-9 : tie.Need-enum-told-9
 enum-told-9 c = search needs
 
 returns : tie.Need-returns
-unfolding readByte readOut byteOf
-returns c = read-by (c .before .before .args .t1) _ _ (c .enum-told .given .1)
+unfolding byteOf readOut
+returns c = λ m. read-by _ _ _ _ _ (c .enum-told .given .1) (refl, refl)
 
 returns-2 : tie.Need-returns-2
-unfolding readByte readOut byteOf
-returns-2 c = read-by (c .before .before .args .t1) _ _ (c .enum-told2 .given .1)
+unfolding byteOf readOut
+returns-2 c = λ m. read-by _ _ _ _ _ (c .enum-told2 .given .1) (refl, refl)
 
 returns-3 : tie.Need-returns-3
-unfolding readByte readOut byteOf
-returns-3 c =
-    let m = c .before .before .before .args .t1 in
-    (λ i. record { after = m; byte = c .ris .ensures i }) ∙ read-by m _ _ (c .before .enum-told3 .given .1)
+unfolding byteOf readOut ris
+returns-3 c = λ m. read-by _ _ _ _ _ (c .before .before .enum-told3 .given .1) (c .ris .ensures, refl)
 
 returns-4 : tie.Need-returns-4
-unfolding readByte readOut byteOf
-returns-4 c =
-    let m = c .before .before .before .args .t1 in
-    (λ i. record { after = m; byte = c .mis .ensures i }) ∙ read-by m _ _ (c .before .enum-told4 .given .1)
+unfolding byteOf readOut mis
+returns-4 c = λ m. read-by _ _ _ _ _ (c .before .before .enum-told4 .given .1) (c .mis .ensures, refl)
 
 returns-5 : tie.Need-returns-5
-unfolding readByte readOut byteOf
-returns-5 c = read-by (c .before .before .args .t1) _ _ (c .enum-told5 .given .1)
+unfolding byteOf readOut
+returns-5 c = λ m. read-by _ _ _ _ _ (c .enum-told5 .given .1) (refl, refl)
 
 returns-6 : tie.Need-returns-6
-unfolding readByte readOut byteOf
-returns-6 c = read-by (c .before .before .args .t1) _ _ (c .enum-told6 .given .1)
+unfolding byteOf readOut
+returns-6 c = λ m. read-by _ _ _ _ _ (c .enum-told6 .given .1) (refl, refl)
 
 returns-7 : tie.Need-returns-7
-unfolding readByte readOut byteOf
-returns-7 c =
-    let m = c .before .before .before .before .before .before .before .args .t1 in
-    (λ i. record { after = c .marked .ensures i; byte = c .before .picture .ensures i }) ∙ read-by m _ _ (c .before .before .before .before .before .register .given .1)
+returns-7 c = λ m. read-by _ _ _ _ _ (c .before .before .before .before .before .register .given .1) (shown-code _ _ _ _ _ (c .before .before .before .picture .ensures) (c .mark .ensures))
 
 returns-8 : tie.Need-returns-8
-unfolding readByte readOut byteOf
-returns-8 c = c .take-code .ensures ∙ read-by (c .before .before .before .args .t1) _ _ (c .before .enum-told7 .given .1)
+returns-8 c = λ m. read-by _ _ _ _ _ (c .before .before .before .enum-told7 .given .1) (taken-code _ _ _ _ (c .take-oldest .ensures))
 
 returns-9 : tie.Need-returns-9
-unfolding readByte readOut byteOf
-returns-9 c = read-by (c .before .before .args .t1) _ _ (c .enum-told8 .given .1)
+unfolding byteOf readOut
+returns-9 c = λ m. read-by _ _ _ _ _ (c .enum-told8 .given .1) (refl, refl)
 
 returns-10 : tie.Need-returns-10
-unfolding readByte readOut byteOf
-returns-10 c = read-by (c .before .before .args .t1) _ _ (c .enum-told9 .given .1)
+unfolding byteOf readOut
+returns-10 c = λ m. read-by _ _ _ _ _ (c .enum-told9 .given .1) (refl, refl)
 
 pub read-byte-spec : {M : Type 1} → statement M
 read-byte-spec =
@@ -112,9 +105,9 @@ read-byte-spec =
     enum-told-6
     enum-known-register
     picture-requires
-    marked-requires
+    mark-requires
     enum-told-7
-    take-code-requires
+    take-oldest-requires
     enum-told-8
     enum-told-9
     returns

@@ -4,6 +4,8 @@ use native.Mathlib.Omega.{arith}
 use mathlib.Core.Path.{sym, _∙_}
 use borrow.Author.Tests.{not-true, not-false}
 use Rattle.numbers.proofs.Laws.{stops, goes, ends}
+use Rattle.keys.proofs.Laws.{rows-most}
+use Rattle.sound.proofs.Laws.{sound-facts, sound-out}
 use Rattle.judge.proofs.Laws.{eight-samples}
 use Rattle.calls.specs.Calls.{lookLines, lookNumber, lookCall}
 use Rattle.calls.proofs.Laws.{unsound-first, look-samples, look-strays, outcome-done, outcome-declined}
@@ -32,7 +34,7 @@ returns-2 c =
     outcome-declined (a .m) _ _ _ (look-samples (a .m) (a .samples .now) ok (λ z. c .if2 .taken (e ∙ z)) ∙ sym e) (c .if2 .taken)
 
 has-strays-requires : tie.Need-has-strays-requires
-has-strays-requires c κs = eight-samples _ (sym (c .before .of-samples .ensures) ∙ c .if2 .left)
+has-strays-requires c κs = search needs
 
 returns-3 : tie.Need-returns-3
 unfolding lookCall
@@ -40,11 +42,14 @@ returns-3 c =
     let a = c .before .before .before .before .before .before .before .args in
     let ok = sym (c .before .before .before .before .before .is-sound .ensures) ∙ not-false _ (c .before .before .before .before .if1 .left) in
     let eight = sym (c .before .before .before .of-samples .ensures) ∙ c .before .before .if2 .left in
-    let stray = sym (c .before .has-strays .ensures) ∙ c .if3 .taken in
+    let stray = sym (c .before .has-strays .ensures (a .samples .now)) ∙ c .if3 .taken in
     outcome-declined (a .m) _ 9 _ (look-strays (a .m) (a .samples .now) ok eight ∙ stops _ 9 _ stray) (λ e. omega arith)
 
 looked-requires : tie.Need-looked-requires
-looked-requires c κs = eight-samples _ (sym (c .before .before .before .of-samples .ensures) ∙ c .before .before .if2 .left)
+looked-requires c κs =
+    let ok = sym (c .before .before .before .before .before .is-sound .ensures) ∙ not-false _ (c .before .before .before .before .if1 .left) in
+    let m = c .before .before .before .before .before .before .before .args .m in
+    (eight-samples _ (sym (c .before .before .before .of-samples .ensures) ∙ c .before .before .if2 .left), record { rows = rows-most _ (sound-facts m ok .size); keys = sound-out m ok })
 
 returns-4 : tie.Need-returns-4
 unfolding lookCall
@@ -52,7 +57,7 @@ returns-4 c =
     let a = c .before .before .before .before .before .before .before .before .args in
     let ok = sym (c .before .before .before .before .before .before .is-sound .ensures) ∙ not-false _ (c .before .before .before .before .before .if1 .left) in
     let eight = sym (c .before .before .before .before .of-samples .ensures) ∙ c .before .before .before .if2 .left in
-    let within = sym (c .before .before .has-strays .ensures) ∙ c .before .if3 .left in
+    let within = sym (c .before .before .has-strays .ensures (a .samples .now)) ∙ c .before .if3 .left in
     outcome-done (a .m) _ _ _ (c .looked .ensures) (look-strays (a .m) (a .samples .now) ok eight ∙ goes _ 9 _ within ∙ ends)
 
 pub look-spec : {M : Type 1} → statement M

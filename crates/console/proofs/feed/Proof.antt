@@ -8,10 +8,10 @@ use Rattle.console.proofs.feed.Statement.{statement}
 use Rattle.console.proofs.feed.Tie as tie
 
 abbrev Inv-loop : tie.InvT-loop
-Inv-loop input line₀ page₀ session₀ i₀ line page session i = (i ≤ length input) × (length line ≡ length line₀) × (length page ≡ length page₀)
+Inv-loop input line₀ session₀ i₀ line session i = (i ≤ length input) × (length line ≡ length line₀)
 
 abbrev μ-loop : tie.MeasureT-loop
-μ-loop input line₀ page₀ session₀ i₀ line page session i = length input - i
+μ-loop input line₀ session₀ i₀ line session i = length input - i
 
 loop-holds : tie.Need-loop-holds Inv-loop μ-loop
 loop-holds c = search needs
@@ -40,9 +40,6 @@ loop-again c = search needs
 same-length : tie.Need-same-length Inv-loop μ-loop
 same-length c = search needs
 
-same-length-2 : tie.Need-same-length-2 Inv-loop μ-loop
-same-length-2 c = search needs
-
 returns : tie.Need-returns Inv-loop μ-loop
 returns c = search needs
 
@@ -61,5 +58,4 @@ feed-spec =
     loop-less
     loop-again
     same-length
-    same-length-2
     returns)

@@ -5,13 +5,10 @@ use Rattle.console.proofs.main.Statement.{statement}
 use Rattle.console.proofs.main.Tie as tie
 
 abbrev Inv-loop : tie.InvT-loop
-Inv-loop line₀ page₀ s₀ turns₀ line page s turns = Unit {0}
+Inv-loop line₀ s₀ turns₀ line s turns = Unit {0}
 
 abbrev μ-loop : tie.MeasureT-loop
-μ-loop line₀ page₀ s₀ turns₀ line page s turns = turns
-
-large-buffer-requires : tie.Need-large-buffer-requires Inv-loop μ-loop
-large-buffer-requires c κs = search needs
+μ-loop line₀ s₀ turns₀ line s turns = turns
 
 fresh-requires : tie.Need-fresh-requires Inv-loop μ-loop
 fresh-requires c κs = search needs
@@ -43,7 +40,6 @@ main-spec =
     (tie.spec
     Inv-loop
     μ-loop
-    large-buffer-requires
     fresh-requires
     loop-holds
     turn-requires

@@ -2,7 +2,6 @@
 -- Assumes nothing.
 use mathlib.Core.Path.{_∙_}
 use Rattle.state.specs.Queue.{waits}
-use Rattle.flags.specs.Flags.{mis}
 use Rattle.flags.proofs.Laws.{four}
 use borrow.Author.Needs.{needs}
 use Rattle.flags.proofs.mis.Statement.{statement}
@@ -24,7 +23,7 @@ byte-requires : tie.Need-byte-requires
 byte-requires c κs = search needs
 
 returns : tie.Need-returns
-unfolding mis waits
+unfolding waits
 returns c =
     c .byte .ensures
     ∙ (λ i. four (c .before .before .before .before .cleared .ensures i) (c .before .before .before .cleared2 .ensures i) (c .before .before .cleared3 .ensures i) (c .before .cleared4 .ensures i))

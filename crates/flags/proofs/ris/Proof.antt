@@ -1,7 +1,6 @@
 -- `flags::ris` meets its contract, by what `byte` ensures.
 -- Assumes nothing.
 use Rattle.state.specs.Queue.{waits}
-use Rattle.flags.specs.Flags.{ris}
 use borrow.Author.Needs.{needs}
 use Rattle.flags.proofs.ris.Statement.{statement}
 use Rattle.flags.proofs.ris.Tie as tie
@@ -10,7 +9,7 @@ byte-requires : tie.Need-byte-requires
 byte-requires c κs = search needs
 
 returns : tie.Need-returns
-unfolding ris waits
+unfolding waits
 returns c = c .byte .ensures
 
 pub ris-spec : {M : Type 1} → statement M

@@ -9,21 +9,21 @@ use Rattle.picture.proofs.more.Statement.{statement}
 use Rattle.picture.proofs.more.Tie as tie
 
 abbrev Inv-loop : tie.InvT-loop
-Inv-loop from table k₀ k = more (codesFrom from table) ≡ more (codesFrom k table)
+Inv-loop table from k₀ k = more (codesFrom from table) ≡ more (codesFrom k table)
 
 abbrev μ-loop : tie.MeasureT-loop
-μ-loop from table k₀ k = 104 - k
+μ-loop table from k₀ k = 104 - k
 
 loop-holds : tie.Need-loop-holds Inv-loop μ-loop
 loop-holds c = refl
 
-array-read-if1 : tie.Need-array-read-if1 Inv-loop μ-loop
-array-read-if1 c = search needs
+shared-slice-read-if1 : tie.Need-shared-slice-read-if1 Inv-loop μ-loop
+shared-slice-read-if1 c = search needs
 
 returns : tie.Need-returns Inv-loop μ-loop
 returns c =
-    let l = c .before .before .loop in
-    (sym (l .inv ∙ more-on (c .before .before .before .args .t1) (search needs) (l .k) (c .before .loop-test .taken) (c .if1 .taken)), search needs)
+    let l = c .before .before .before .loop in
+    (sym (l .inv ∙ more-on (c .before .before .before .before .args .table .now) (search needs) (l .k) (c .before .before .loop-test .taken) (c .if1 .taken)), search needs)
 
 add-k : tie.Need-add-k Inv-loop μ-loop
 add-k c = search needs
@@ -33,13 +33,13 @@ loop-less c = search needs
 
 loop-again : tie.Need-loop-again Inv-loop μ-loop
 loop-again c =
-    let l = c .before .before .loop in
-    l .inv ∙ more-off (c .before .before .before .args .t1) (search needs) (l .k) (c .before .loop-test .taken) (c .if1 .left)
+    let l = c .before .before .before .loop in
+    l .inv ∙ more-off (c .before .before .before .before .args .table .now) (search needs) (l .k) (c .before .before .loop-test .taken) (c .if1 .left)
 
 returns-2 : tie.Need-returns-2 Inv-loop μ-loop
 returns-2 c =
     let l = c .before .loop in
-    (sym (l .inv ∙ more-end (c .before .before .args .t1) (search needs) (l .k) (c .loop-test .left)), search needs)
+    (sym (l .inv ∙ more-end (c .before .before .args .table .now) (search needs) (l .k) (c .loop-test .left)), search needs)
 
 pub more-spec : {M : Type 1} → statement M
 more-spec =
@@ -48,7 +48,7 @@ more-spec =
     Inv-loop
     μ-loop
     loop-holds
-    array-read-if1
+    shared-slice-read-if1
     returns
     add-k
     loop-less

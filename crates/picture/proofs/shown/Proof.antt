@@ -11,17 +11,17 @@ use Rattle.picture.proofs.shown.Statement.{statement}
 use Rattle.picture.proofs.shown.Tie as tie
 
 abbrev Inv-loop : tie.InvT-loop
-Inv-loop n table k₀ rest₀ k rest = picture n table ≡ nth rest (codesFrom k table)
+Inv-loop table n k₀ rest₀ k rest = picture n table ≡ nth rest (codesFrom k table)
 
 abbrev μ-loop : tie.MeasureT-loop
-μ-loop n table k₀ rest₀ k rest = 104 - k
+μ-loop table n k₀ rest₀ k rest = 104 - k
 
 loop-holds : tie.Need-loop-holds Inv-loop μ-loop
 unfolding picture
 loop-holds c = refl
 
-array-read-if1 : tie.Need-array-read-if1 Inv-loop μ-loop
-array-read-if1 c = search needs
+shared-slice-read-if1 : tie.Need-shared-slice-read-if1 Inv-loop μ-loop
+shared-slice-read-if1 c = search needs
 
 change-code-requires : tie.Need-change-code-requires Inv-loop μ-loop
 change-code-requires c κs = search needs
@@ -33,13 +33,13 @@ more-requires : tie.Need-more-requires Inv-loop μ-loop
 more-requires c κs = search needs
 
 add-result : tie.Need-add-result Inv-loop μ-loop
-add-result c = let low = press-most (c .before .before .before .before .before .loop .k) in omega arith
+add-result c = let low = press-most (c .before .before .before .before .before .before .loop .k) in omega arith
 
 returns : tie.Need-returns Inv-loop μ-loop
 returns c =
-    let l = c .before .before .before .before .before .loop in
-    let table = c .before .before .before .before .before .before .args .t1 in
-    let here = nth-here table (search needs) (l .k) (c .before .before .before .before .loop-test .taken) (c .before .before .before .if1 .taken) (l .rest) (c .before .before .if2 .taken) in
+    let l = c .before .before .before .before .before .before .loop in
+    let table = c .before .before .before .before .before .before .before .before .args .table .now in
+    let here = nth-here table (search needs) (l .k) (c .before .before .before .before .before .loop-test .taken) (c .before .before .before .if1 .taken) (l .rest) (c .before .before .if2 .taken) in
     (λ i. c .before .change-code .ensures i + c .more .ensures .0 i) ∙ sym (l .inv ∙ here)
 
 add-k : tie.Need-add-k Inv-loop μ-loop
@@ -50,17 +50,17 @@ loop-less c = search needs
 
 loop-again : tie.Need-loop-again Inv-loop μ-loop
 loop-again c =
-    let l = c .before .before .loop in
-    let table = c .before .before .before .args .t1 in
+    let l = c .before .before .before .loop in
+    let table = c .before .before .before .before .before .args .table .now in
     let shows : ℕ → ℕ = λ n. nth n (codesFrom (l .k + 1) table) in
     l .inv ∙ ⊎-elim
-    (λ w. nth-on table (search needs) (l .k) (c .before .loop-test .taken) (w .0 .taken) (l .rest) (w .1 .left) ∙ ap shows (sym (w .2)))
-    (λ w. nth-off table (search needs) (l .k) (c .before .loop-test .taken) (w .0 .left) (l .rest) ∙ ap shows (sym (w .1))) (c .if1 .came)
+    (λ w. nth-on table (search needs) (l .k) (c .before .before .loop-test .taken) (w .0 .taken) (l .rest) (w .1 .left) ∙ ap shows (sym (w .2)))
+    (λ w. nth-off table (search needs) (l .k) (c .before .before .loop-test .taken) (w .0 .left) (l .rest) ∙ ap shows (sym (w .1))) (c .if1 .came)
 
 returns-2 : tie.Need-returns-2 Inv-loop μ-loop
 returns-2 c =
     let l = c .before .loop in
-    sym (l .inv ∙ nth-end (c .before .before .args .t1) (search needs) (l .k) (c .loop-test .left) (l .rest))
+    sym (l .inv ∙ nth-end (c .before .before .before .args .table .now) (search needs) (l .k) (c .loop-test .left) (l .rest))
 
 pub shown-spec : {M : Type 1} → statement M
 shown-spec =
@@ -69,7 +69,7 @@ shown-spec =
     Inv-loop
     μ-loop
     loop-holds
-    array-read-if1
+    shared-slice-read-if1
     change-code-requires
     add-more
     more-requires

@@ -2,6 +2,7 @@
 -- Assumes nothing.
 use mathlib.Core.Path.{refl, sym}
 use mathlib.Core.Bool.{or-true, or-false}
+use Rattle.scan.specs.Walk.{atKey}
 use borrow.Author.Needs.{needs}
 use Rattle.scan.proofs.look_at.Statement.{statement}
 use Rattle.scan.proofs.look_at.Tie as tie
@@ -28,15 +29,16 @@ put-requires : tie.Need-put-requires
 put-requires c κs = search needs
 
 returns : tie.Need-returns
+unfolding atKey
 returns c =
     let any = c .before .before .before .before .before .before .before .before .before .args .any .now in
-    rw (← c .before .before .before .before .before .before .step .ensures, c .before .before .before .before .before .if1 .taken, ← c .before .before .before .before .change-code .ensures)
-    (refl, (refl, (c .put .ensures, sym (or-true any))))
+    rw (← c .before .before .before .before .before .before .step .ensures, c .before .before .before .before .before .if1 .taken, ← c .before .before .before .before .change-code .ensures, c .put .ensures, or-true any)
 
 returns-2 : tie.Need-returns-2
+unfolding atKey
 returns-2 c =
     let any = c .before .before .before .before .args .any .now in
-    rw (← c .before .step .ensures, c .if1 .left) (refl, (refl, (refl, sym (or-false any))))
+    rw (← c .before .step .ensures, c .if1 .left, or-false any)
 
 pub look-at-spec : {M : Type 1} → statement M
 look-at-spec =

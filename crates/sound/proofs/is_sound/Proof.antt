@@ -29,7 +29,9 @@ unfolding sound
 returns-3 c = sym (every-later _ _ (every-later _ _ (every-stops _ _ (lt-leb _ _ (c .if3 .taken)))))
 
 codes-sound-requires : tie.Need-codes-sound-requires
-codes-sound-requires c κs = search needs
+codes-sound-requires c κs =
+    let size = c .before .before .before .before .before .before .before .before in
+    sym (size .before .is-acceptable .ensures) ∙ not-false _ (size .if1 .left)
 
 returns-4 : tie.Need-returns-4
 unfolding sound codesSound waiting

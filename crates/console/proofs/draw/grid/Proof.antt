@@ -1,17 +1,15 @@
 -- `draw::grid` is safe: the loop goes on to the last row.
 -- Assumes nothing.
 use Prim.Native.Nat.{_≤_, _-_}
-use mathlib.Core.Path.{_≡_}
-use lib.ListN.{length}
 use borrow.Author.Needs.{needs}
 use Rattle.console.proofs.draw.grid.Statement.{statement}
 use Rattle.console.proofs.draw.grid.Tie as tie
 
 abbrev Inv-loop : tie.InvT-loop
-Inv-loop page₀ at held size rows cols next₀ r₀ page next r = (r ≤ rows) × (length page ≡ length page₀)
+Inv-loop held size rows cols next₀ r₀ next r = r ≤ rows
 
 abbrev μ-loop : tie.MeasureT-loop
-μ-loop page₀ at held size rows cols next₀ r₀ page next r = rows - r
+μ-loop held size rows cols next₀ r₀ next r = rows - r
 
 columns-requires : tie.Need-columns-requires Inv-loop μ-loop
 columns-requires c κs = search needs
@@ -31,9 +29,6 @@ loop-less c = search needs
 loop-again : tie.Need-loop-again Inv-loop μ-loop
 loop-again c = search needs
 
-same-length : tie.Need-same-length Inv-loop μ-loop
-same-length c = search needs
-
 returns : tie.Need-returns Inv-loop μ-loop
 returns c = search needs
 
@@ -49,5 +44,4 @@ grid-spec =
     add-r
     loop-less
     loop-again
-    same-length
     returns)

@@ -1,4 +1,0 @@
-pub mod Pages
-pub mod Line
-pub mod Digits
-pub mod Commands

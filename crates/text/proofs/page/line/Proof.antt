@@ -1,0 +1,55 @@
+-- `page::line` meets its contract. The loop's invariant: the page with the rest of the line is the page with all of it.
+-- Assumes nothing.
+use Prim.Native.Nat.{_≤_, _-_}
+use mathlib.Core.Path.{_≡_, refl, sym, _∙_}
+use lib.ListN.{length, drop}
+use Rattle.text.specs.Pages as is
+use Rattle.text.proofs.Laws.{line-end, line-stop, line-go}
+use borrow.Author.Needs.{needs}
+use Rattle.text.proofs.page.line.Statement.{statement}
+use Rattle.text.proofs.page.line.Tie as tie
+
+abbrev Inv-loop : tie.InvT-loop
+Inv-loop words next₀ i₀ next i = (i ≤ length words) × (is.wrote next₀ (is.firstLine words) ≡ is.wrote next (is.firstLine (drop i words)))
+
+abbrev μ-loop : tie.MeasureT-loop
+μ-loop words next₀ i₀ next i = length words - i
+
+loop-holds : tie.Need-loop-holds Inv-loop μ-loop
+loop-holds c = (search needs, refl)
+
+shared-slice-read-byte : tie.Need-shared-slice-read-byte Inv-loop μ-loop
+shared-slice-read-byte c = search needs
+
+put-requires : tie.Need-put-requires Inv-loop μ-loop
+put-requires c κs = search needs
+
+returns : tie.Need-returns Inv-loop μ-loop
+returns c = let l = c .before .before .before .before .loop in sym (l .inv .1 ∙ line-stop (l .next) _ (l .i) (c .before .before .before .loop-test .taken) _ (c .before .put .ensures) (c .if1 .taken))
+
+add-i : tie.Need-add-i Inv-loop μ-loop
+add-i c = search needs
+
+loop-less : tie.Need-loop-less Inv-loop μ-loop
+loop-less c = search needs
+
+loop-again : tie.Need-loop-again Inv-loop μ-loop
+loop-again c = let l = c .before .before .before .before .loop in (search needs, l .inv .1 ∙ line-go (l .next) _ (l .i) (c .before .before .before .loop-test .taken) _ (c .before .put .ensures) (c .if1 .left))
+
+returns-2 : tie.Need-returns-2 Inv-loop μ-loop
+returns-2 c = let l = c .before .loop in sym (l .inv .1 ∙ line-end (l .next) _ (l .i) (c .loop-test .left))
+
+pub line-spec : {M : Type 1} → statement M
+line-spec =
+    tie.close
+    (tie.spec
+    Inv-loop
+    μ-loop
+    loop-holds
+    shared-slice-read-byte
+    put-requires
+    returns
+    add-i
+    loop-less
+    loop-again
+    returns-2)

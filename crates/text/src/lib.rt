@@ -1,0 +1,4 @@
+// The words and numbers of a line, and the page that answers are written on.
+pub mod number;
+pub mod page;
+pub mod word;
