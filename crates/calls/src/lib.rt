@@ -14,7 +14,6 @@ pub struct Done {
 }
 
 // What a question hands back; the answer of a declined one is no.
-#[repr(C)]
 pub struct Answered {
     pub after: Module,
     pub number: u8,
