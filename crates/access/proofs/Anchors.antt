@@ -1,6 +1,5 @@
 -- What the registers read after reset, computed, against the column "After reset" of the register table.
 -- Assumes nothing.
-use Prim.Native.Nat.{ℕ}
 use mathlib.Core.Path.{_≡_, refl}
 use mathlib.Core.List.{List, [], _∷_}
 use lib.Dec.{eqb}

@@ -9,17 +9,17 @@
 --    other            a sample that isn't as held is the opposite
 --    reached, ahead   the tests of the code, said as the step's
 -- Assumes nothing.
-use Prim.Native.Nat.{ℕ, zero, suc, _+_, _≤_, _<_, max}
+use Prim.Native.Nat.{ℕ, zero, suc, _+_, _≤_, _<_}
 use native.Mathlib.Numerals.{add-one}
 use native.Mathlib.Omega.{arith}
-use mathlib.Core.Path.{_≡_, refl, sym, ap, _∙_}
+use mathlib.Core.Path.{_≡_, refl, sym, _∙_}
 use mathlib.Core.Bool.{Bool, true, false, not, _&&_, cond, Bool·beq, and-false}
 use mathlib.Core.List.{List, [], _∷_}
 use lib.ListN.{length, take}
 use borrow.Author.Tests.{lt-leb, le-leb, leb-true, leb-false}
-use lib.Dec.{leb, ltb, leb·zero, leb·suc-zero, leb·suc-suc}
+use lib.Dec.{leb, leb·zero, leb·suc-zero, leb·suc-suc}
 use Rattle.words.specs.Words.{all}
-use Rattle.words.proofs.Laws.{true-false, all-first, all-rest}
+use Rattle.words.proofs.Laws.{true-false, all-first}
 use Rattle.contact.specs.declared.Contact.{Contact}
 use Rattle.contact.specs.Contact.{looks, opposite, changes, Seen, samples, heldAfter, runOf, stepped}
 

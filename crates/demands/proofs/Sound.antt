@@ -45,9 +45,9 @@ module _ (f : Register → ℕ → Bool) (asked : (r : Register) (b : ℕ) → (
       and-both (f r b) (writes f past) (asked r b (and-left fit (fitting past) e)) (fits-writes past (and-right fit (fitting past) e))
   fits-writes (got r ∷ past) e = fits-writes past e
 
-bytes-fit : (past : Past) → fitting past ≡ true → writes sizes.byteFits past ≡ true
-unfolding sizes.byteFits
-bytes-fit = fits-writes sizes.byteFits (λ r b e. and-left (leb b 0xFF) (byteFits r b) e)
+bytes-fit : (past : Past) → fitting past ≡ true → writes sizes.byteLow past ≡ true
+unfolding sizes.byteLow
+bytes-fit = fits-writes sizes.byteLow (λ r b e. and-left (leb b 0xFF) (byteFits r b) e)
 
 sizes-fit : (past : Past) → fitting past ≡ true → writes sizeFits past ≡ true
 unfolding byteFits sizeFits

@@ -2,7 +2,7 @@
 -- Assumes nothing.
 use Prim.Native.Nat.{ℕ}
 use mathlib.Core.Path.{_≡_, refl}
-use mathlib.Core.Bool.{not, true, _||_, _&&_}
+use mathlib.Core.Bool.{not, true, _&&_}
 use mathlib.Core.List.{List, [], _∷_}
 use Rattle.words.specs.Words.{all, bit}
 use Rattle.judge.specs.Lines.{high}

@@ -6,18 +6,18 @@
 --    eight-samples               a look whose samples are not declined has eight
 --    write-access, write-rest    a write is declined as an access, or else by its bytes alone
 -- Assumes nothing.
-use Prim.Native.Nat.{ℕ, _+_, _/_, _%_, _^_, _≤_, _<_}
+use Prim.Native.Nat.{ℕ, _+_, _/_, _%_, _≤_, _<_}
 use native.Mathlib.Numerals.{add-one}
 use native.Mathlib.Omega.{arith}
 use mathlib.Core.Path.{_≡_, refl, sym, ap, _∙_}
-use mathlib.Core.Bool.{Bool, true, false, not, _||_, _&&_}
-use mathlib.Core.List.{List, [], _∷_, _++_}
+use mathlib.Core.Bool.{Bool, true, false, not, _||_}
+use mathlib.Core.List.{List, [], _∷_}
 use lib.ListN.{length, getD, drop, drop-of-length-le}
 use lib.Seq.{drop-cons}
 use lib.Dec.{eqb, ltb}
-use borrow.Author.Tests.{eq-eqb, ne-eqb, eqb-true, eqb-false}
-use Rattle.words.specs.Words.{bit, all}
-use Rattle.numbers.specs.Numbers.{Line, _gives_, numberOf}
+use borrow.Author.Tests.{ne-eqb, eqb-true, eqb-false}
+use Rattle.words.specs.Words.{bit}
+use Rattle.numbers.specs.Numbers.{_gives_, numberOf}
 use Rattle.registers.specs.declared.Register.{Register}
 use Rattle.registers.specs.declared.Access.the-variants.{Write}
 use Rattle.registers.specs.Registers.{registerAt}

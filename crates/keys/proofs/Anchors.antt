@@ -4,12 +4,12 @@
 --    codes      the 104 press codes by row, then column
 --    in22, in2C, in8C    the keys in those sizes, by their press codes
 -- Assumes nothing.
-use Prim.Native.Nat.{ℕ, zero, suc, _+_}
+use Prim.Native.Nat.{ℕ, _+_}
 use mathlib.Core.Path.{_≡_, refl}
 use mathlib.Core.Bool.{Bool, true, false, _&&_, Bool·beq}
-use mathlib.Core.List.{List, [], _∷_, _++_}
+use mathlib.Core.List.{List, [], _∷_}
 use lib.ListN.{length, getD}
-use lib.Dec.{eqb, leb}
+use lib.Dec.{eqb}
 use Rattle.words.specs.Words.{allBelow, among}
 use Rattle.keys.specs.Keys.{isKey, keyAt, rowOf, colOf, pressCode, releaseCode, code, isCode, keyOf, acceptable, inSize, keyIn}
 

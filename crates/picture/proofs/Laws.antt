@@ -5,7 +5,6 @@
 --    more-end, more-on, more-off    whether there is one
 --    nth-first, nth-later           what a register shows of given codes
 --    nth-end, nth-here, nth-on, nth-off    what it shows of the keys from k on
---    press-most                     a press code leaves room for the 128
 --    read-first, read-second, read-third, read-last    the marks, looked at one by one
 --    marked-all, marked-some        the fourth mark is set, and one before it
 -- Assumes nothing.
@@ -17,8 +16,7 @@ use mathlib.Core.Bool.{Bool, true, false}
 use mathlib.Core.List.{List, [], _∷_}
 use lib.ListN.{length, getD, set, drop, drop-of-length-le}
 use lib.Seq.{drop-cons}
-use Rattle.keys.specs.Keys.{rowOf, colOf, code}
-use Rattle.keys.proofs.Laws.{press-low}
+use Rattle.keys.specs.Keys.{code}
 use Rattle.state.specs.declared.Module.{Module}
 use Rattle.state.specs.Module.{forgotten, withRsint, withSeen}
 use Rattle.picture.specs.Picture.{heldCodes, more, nth, allRead, marked}
@@ -75,10 +73,6 @@ module _ (l : List Bool) (long : length l ≡ 104) (k : ℕ) where
 
     pub nth-off : (n : ℕ) → nth n (codesFrom k l) ≡ nth n (codesFrom (k + 1) l)
     nth-off n = ap (nth n) held-off
-
-pub press-most : (k : ℕ) → code k true ≤ 0x7F
-unfolding code
-press-most k = press-low (rowOf k) (colOf k)
 
 module _ (seen : List Bool) where
   pub read-first : getD seen 0 false ≡ false → allRead seen ≡ false

@@ -3,9 +3,9 @@
 --    rows       the table: address, R, W, after reset
 --    reads, writes    the accesses that can be done: first address, most bytes
 -- Assumes nothing.
-use Prim.Native.Nat.{ℕ, suc, zero}
+use Prim.Native.Nat.{ℕ}
 use mathlib.Core.Path.{_≡_, refl}
-use mathlib.Core.Bool.{Bool, true, false, not, _&&_, _||_, Bool·beq}
+use mathlib.Core.Bool.{Bool, true, false, _&&_, _||_, Bool·beq}
 use mathlib.Core.List.{List, [], _∷_}
 use lib.Dec.{leb, eqb}
 use Rattle.words.specs.Words.{all, allBelow}

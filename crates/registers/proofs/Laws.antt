@@ -2,7 +2,6 @@
 --
 --    run-none                 an access of no bytes has no address
 --    run-stops, run-goes      the first address decides, or the rest does
---    run-first, run-rest      what is allowed as a whole is allowed at its first address, and from the next on
 --    no-address, small        above 0xFF there is no register; the number of a picture register fits a byte
 -- Assumes nothing.
 use Prim.Native.Nat.{ℕ, zero, suc, _-_, _<_}
@@ -10,10 +9,10 @@ use native.Mathlib.Nat.{not-suc-le-zero}
 use native.Mathlib.Numerals.{sub-one}
 use native.Mathlib.Omega.{arith}
 use mathlib.Core.Path.{_≡_, refl}
-use mathlib.Core.Bool.{Bool, true, false}
+use mathlib.Core.Bool.{true, false}
 use borrow.Author.Tests.{ne-eqb, lt-leb, le-leb}
 use Rattle.words.specs.Words.{all}
-use Rattle.words.proofs.Laws.{all-first, all-rest, all-stops, all-goes}
+use Rattle.words.proofs.Laws.{all-stops, all-goes}
 use Rattle.registers.specs.declared.Access.{Access}
 use Rattle.registers.specs.declared.Register.the-variants.{Unknown}
 use Rattle.registers.specs.Registers.{registerAt, allowed}
@@ -33,14 +32,6 @@ module _ (way : Access) (a : ℕ) where
   unfolding runAllowed addresses
   run-goes zero h e = absurd (not-suc-le-zero h)
   run-goes (suc n) h e = simp sub-one (all-goes (λ b. allowed way (registerAt b)) a (addresses (next a) n) e)
-
-  pub run-first : (n : ℕ) → runAllowed way a (suc n) ≡ true → allowed way (registerAt a) ≡ true
-  unfolding runAllowed addresses
-  run-first n e = all-first (λ b. allowed way (registerAt b)) a (addresses (next a) n) e
-
-  pub run-rest : (n : ℕ) → runAllowed way a (suc n) ≡ true → runAllowed way (next a) n ≡ true
-  unfolding runAllowed addresses
-  run-rest n e = all-rest (λ b. allowed way (registerAt b)) a (addresses (next a) n) e
 
 -- "there is no address 0x100"
 pub no-address : (a : ℕ) → 0xFF < a → registerAt a ≡ Unknown

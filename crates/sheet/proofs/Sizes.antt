@@ -1,7 +1,7 @@
 -- Keys out of the size, runs, and the codes that wait, for every past.
 --
 --    writes f past                 f is true of every byte written, with its register
---    byteFits, sizeFits            the byte fits a byte; if it is for KBDSIZE, it is acceptable
+--    byteLow, sizeFits             the byte is below 256; if it is for KBDSIZE, it is acceptable
 --    bounce-low, size-ok           where they all do, so do the settings
 --    out-open                      out of the size nothing is held and the run is 0
 --    out-still, changed-in         so no key out of the size changes: one that changes is in it
@@ -37,19 +37,19 @@ writes f (looked s ∷ past) = writes f past
 writes f (wrote r b ∷ past) = f r b && writes f past
 writes f (got r ∷ past) = writes f past
 
-unfoldable pub byteFits : Register → ℕ → Bool
-byteFits r b = leb b 255
+unfoldable pub byteLow : Register → ℕ → Bool
+byteLow r b = leb b 255
 
 unfoldable pub sizeFits : Register → ℕ → Bool
 sizeFits r b = acceptable b if r is KBDSIZE else true
 
-pub bounce-low : (past : Past) → writes byteFits past ≡ true → bounce past ≤ 255
-unfolding bounce writes byteFits
+pub bounce-low : (past : Past) → writes byteLow past ≡ true → bounce past ≤ 255
+unfolding bounce writes byteLow
 bounce-low [] h = omega arith
 bounce-low (looked s ∷ past) h = bounce-low past h
 bounce-low (wrote r b ∷ past) h =
     by-test (λ t. cond t b (bounce past) ≤ 255) (r is KBDBOUNCE)
-    (λ e. leb-true b 255 (and-left (leb b 255) (writes byteFits past) h)) (λ e. bounce-low past (and-right (leb b 255) (writes byteFits past) h))
+    (λ e. leb-true b 255 (and-left (leb b 255) (writes byteLow past) h)) (λ e. bounce-low past (and-right (leb b 255) (writes byteLow past) h))
 bounce-low (got r ∷ past) h = bounce-low past h
 
 -- "KBDSIZE is acceptable"
@@ -112,17 +112,17 @@ changed-in s past k e = by-test (λ t. t ≡ true) (keyIn (size past) k) (λ f. 
 abbrev seenFits : Seen → Bool
 seenFits x = leb (x .bounce) 255
 
-history-low : (past : Past) (k : ℕ) → writes byteFits past ≡ true → all seenFits (history k past) ≡ true
-unfolding history writes byteFits
+history-low : (past : Past) (k : ℕ) → writes byteLow past ≡ true → all seenFits (history k past) ≡ true
+unfolding history writes byteLow
 history-low [] k h = all-none seenFits
 history-low (looked s ∷ past) k h =
     all-cons seenFits (record { bounce = bounce past; closed = sample s (size past) k }) (history k past) (le-leb (bounce past) 255 (bounce-low past h)) (history-low past k h)
 history-low (wrote r b ∷ past) k h =
-    by-test (λ t. all seenFits (cond t [] (history k past)) ≡ true) (r is KBDSIZE) (λ e. all-none seenFits) (λ e. history-low past k (and-right (leb b 255) (writes byteFits past) h))
+    by-test (λ t. all seenFits (cond t [] (history k past)) ≡ true) (r is KBDSIZE) (λ e. all-none seenFits) (λ e. history-low past k (and-right (leb b 255) (writes byteLow past) h))
 history-low (got r ∷ past) k h = history-low past k h
 
 -- "no run is above 254"
-pub run-low : (past : Past) (k : ℕ) → writes byteFits past ≡ true → runOf (held k past) (samples (history k past)) ≤ 254
+pub run-low : (past : Past) (k : ℕ) → writes byteLow past ≡ true → runOf (held k past) (samples (history k past)) ≤ 254
 unfolding held
 run-low past k h = contact.run-low (history k past) (history-low past k h)
 

@@ -7,14 +7,13 @@
 -- Assumes nothing.
 use Prim.Native.Nat.{ℕ, zero, suc, _+_, _-_, _≤_, _<_}
 use native.Mathlib.Omega.{arith}
-use mathlib.Core.Path.{_≡_, refl, sym, ap, _∙_}
-use mathlib.Core.Bool.{Bool, true, false}
-use mathlib.Core.List.{List, [], _∷_, _++_, append-assoc}
-use lib.ListN.{length, getD, set, take, drop, replicate, length-append}
-use lib.Seq.{set-append-seam, append-snoc, take-append-seam}
+use mathlib.Core.Path.{_≡_, refl, sym, ap}
+use mathlib.Core.Bool.{Bool, true}
+use mathlib.Core.List.{List, [], _∷_, _++_}
+use lib.ListN.{length, getD, set}
 use borrow.Author.Tests.{lt-ltb, le-ltb}
 use Rattle.state.specs.Module.{Queue, queue}
-use Rattle.state.specs.Queue.{waiting, waits, put, putAll, oldest, shifted, taken}
+use Rattle.state.specs.Queue.{waits, put, putAll, oldest, shifted, taken}
 
 -- a list by its elements
 byElements : ℕ → (ℕ → ℕ) → List ℕ

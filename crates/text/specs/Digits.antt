@@ -9,7 +9,6 @@ use mathlib.Core.Bool.{Bool, _&&_, not}
 use mathlib.Core.List.{List, [], _∷_}
 use lib.Dec.{ltb, leb}
 use Rattle.words.specs.Words.{_if_, _else_, all, some}
-use Rattle.text.specs.declared.number.Fault.{Fault}
 use Rattle.text.specs.declared.number.Fault.the-variants.{TooFew, NoDigit, TooLarge}
 use Rattle.text.specs.declared.number.Number.{Number}
 use Rattle.text.specs.declared.number.Number.the-variants.{Value, Wrong}

@@ -4,7 +4,7 @@
 --    upTo t l         how many bytes of l stand before the first blank (t) or the first other byte
 --    wordFrom l i     the next word of the line l, from the place i on
 --    same a b         the words a and b are the same
-use Prim.Native.Nat.{ℕ, zero, suc, _+_}
+use Prim.Native.Nat.{ℕ, suc, _+_}
 use mathlib.Core.Bool.{Bool, true, false, _&&_, _||_, Bool·beq}
 use mathlib.Core.List.{List, [], _∷_}
 use lib.ListN.{drop}

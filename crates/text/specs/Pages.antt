@@ -12,7 +12,6 @@
 --    nextOf l         the first of the values l, 0 where there is none
 --    filled p f l     the page p with the form f, filled in with the values l in turn
 use Prim.Native.Nat.{ℕ, _+_, _/_, _%_}
-use mathlib.Core.Bool.{Bool}
 use mathlib.Core.List.{List, [], _∷_}
 use lib.ListN.{set, drop}
 use lib.Dec.{ltb, eqb}

@@ -1,7 +1,6 @@
 -- `access::written` meets its contract: each arm by the register that its match told.
 -- Assumes nothing.
 use mathlib.Core.Path.{_∙_}
-use mathlib.Core.Bool.{Bool}
 use Rattle.state.specs.Module.{withRsint, withRklint, withRelint, withPorirq}
 use Rattle.access.specs.Bytes.{written}
 use Rattle.access.proofs.Laws.{written-by}

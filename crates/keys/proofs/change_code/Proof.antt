@@ -1,7 +1,6 @@
 -- `keys::change_code` meets its contract: row and column of the key, and then the code by what the contact did.
 -- Assumes nothing.
-use mathlib.Core.Path.{_∙_, ap₂, sym}
-use Rattle.keys.specs.Keys.{code, pressCode, releaseCode}
+use Rattle.keys.specs.Keys.{code}
 use borrow.Author.Needs.{needs}
 use Rattle.keys.proofs.change_code.Statement.{statement}
 use Rattle.keys.proofs.change_code.Tie as tie

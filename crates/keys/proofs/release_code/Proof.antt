@@ -1,8 +1,7 @@
 -- `keys::release_code` meets its contract: the press code tells whether there is such a key.
 -- Assumes nothing.
 use native.Mathlib.Omega.{arith}
-use Prim.Native.Nat.{_+_}
-use mathlib.Core.Path.{_≡_, sym, _∙_, ap}
+use mathlib.Core.Path.{sym, _∙_}
 use Rattle.keys.specs.Keys.{pressCode, releaseCode}
 use Rattle.keys.proofs.Laws.{press-none, press-some, press-low}
 use borrow.Author.Needs.{needs}

@@ -5,8 +5,9 @@ use mathlib.Core.Logic.{⊎-elim}
 use Prim.Native.Nat.{ℕ, _+_, _-_}
 use native.Mathlib.Omega.{arith}
 use borrow.Author.Needs.{needs}
+use Rattle.keys.proofs.Laws.{code-low}
 use Rattle.picture.specs.Picture.{nth, picture}
-use Rattle.picture.proofs.Laws.{codesFrom, nth-end, nth-here, nth-on, nth-off, press-most}
+use Rattle.picture.proofs.Laws.{codesFrom, nth-end, nth-here, nth-on, nth-off}
 use Rattle.picture.proofs.shown.Statement.{statement}
 use Rattle.picture.proofs.shown.Tie as tie
 
@@ -33,7 +34,7 @@ more-requires : tie.Need-more-requires Inv-loop μ-loop
 more-requires c κs = search needs
 
 add-result : tie.Need-add-result Inv-loop μ-loop
-add-result c = let low = press-most (c .before .before .before .before .before .before .loop .k) in omega arith
+add-result c = let low = code-low (c .before .before .before .before .before .before .loop .k) in omega arith
 
 returns : tie.Need-returns Inv-loop μ-loop
 returns c =

@@ -5,7 +5,6 @@ use Prim.Native.Nat.{ℕ, _-_}
 use native.Mathlib.Omega.{arith}
 use borrow.Author.Needs.{needs}
 use borrow.Author.Tests.{not-true, not-false}
-use Rattle.registers.specs.declared.Register.{Register}
 use Rattle.registers.specs.Registers.{allowed}
 use Rattle.registers.specs.Runs.{runAllowed}
 use Rattle.registers.proofs.Laws.{run-none, run-stops, run-goes}

@@ -1,6 +1,5 @@
 -- `scan::look_at` meets its contract: the step's answer goes to the key's places, and where the key changed its code goes to the queue.
 -- Assumes nothing.
-use mathlib.Core.Path.{refl, sym}
 use mathlib.Core.Bool.{or-true, or-false}
 use Rattle.scan.specs.Walk.{atKey}
 use borrow.Author.Needs.{needs}

@@ -1,7 +1,7 @@
 -- `state::queue::take_oldest` meets its contract: by the test whether a code waits.
 -- Assumes nothing.
 use Prim.Native.Nat.{ℕ, _-_}
-use mathlib.Core.Path.{_≡_, _∙_, ap}
+use mathlib.Core.Path.{_∙_, ap}
 use mathlib.Core.List.{List}
 use Rattle.state.specs.Module.{queue}
 use Rattle.state.proofs.Laws.{taken-none, taken-some}

@@ -1,9 +1,9 @@
 -- `number::number_of` meets its contract. The loop's invariant: all bytes are digits exactly when those left are, and the digits left
 -- tell, behind the number that is held at one above the most, what all of them tell, up to one above the most.
 -- Assumes nothing.
-use Prim.Native.Nat.{_≤_, _<_, _-_, _*_, min}
+use Prim.Native.Nat.{_≤_, _-_, min}
 use native.Mathlib.Omega.{arith}
-use mathlib.Core.Path.{_≡_, refl, sym, _∙_}
+use mathlib.Core.Path.{_≡_, refl, _∙_}
 use lib.ListN.{length, drop}
 use Rattle.text.specs.Digits.{digits, told}
 use Rattle.text.proofs.Laws.{product-most, digits-end, digits-stop, digits-go, told-end, told-go, number-none, number-no-digit, number-large, number-value}
