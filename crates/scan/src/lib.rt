@@ -129,7 +129,7 @@ pub fn looked(m: Module, samples: &[u16]) -> Module
     after
 }
 
-// The columns of a row that are in the size before the first that isn't, or more.
+// The columns of a row below this one are in the size.
 fn first_out(size: u8, row: u8) -> u8
     ensures { λ r. ⌜ r ≡ walk.firstOut size row ⌝ }
 {
