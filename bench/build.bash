@@ -21,7 +21,10 @@ find_tools() {
 # The archive is built where it is missing or older than a source.
 find_archive() {
     archive=target/staticlib/libpanel.a
-    [ ! -f "$archive" ] || [ -n "$(find crates crates.txt -newer "$archive" | head -n 1)" ] || return 0
+    if [ -f "$archive" ]; then
+        newer=$(find crates crates.txt -newer "$archive") || failed "find ended with status $?"
+        [ -n "$newer" ] || return 0
+    fi
     echo "the archive is missing or older than the sources: rt staticlib panel"
     rt staticlib panel >"$work/log" 2>&1 || failed "rt staticlib panel"
 }

@@ -26,6 +26,12 @@ static void count_turn(const struct face *face, const struct measured *measured)
     step_turn(face, measured, count);
 }
 
+bool counts(void)
+{
+    count_turn(faces[IDLE], &cases[0]);
+    return instructions > 0;
+}
+
 /* A turn on the face less a turn that does nothing, for one call. */
 struct cost cost_of(unsigned face, const struct measured *measured)
 {

@@ -32,6 +32,10 @@ int main(int words, char **word)
     bool costs = words == 2 && strcmp(word[1], "costs") == 0;
     if (!prepare(faces, 3))
         return 1;
+    if (costs && !counts()) {
+        printf("the trap flag doesn't stop the program here: no instruction is counted\n");
+        return 1;
+    }
     if (costs)
         printf("struct;%u\n", (unsigned)sizeof(struct panel));
     for (i = 0; i < case_count; i++) {

@@ -27,10 +27,16 @@ struct cost {
 
 struct cost cost_of(unsigned face, const struct measured *measured);
 
+/* Are instructions counted here at all? */
+bool counts(void);
+
+/* A turn on a stack apart, which lies in its page alike in every run. */
+void turn_apart(const struct face *face, const struct measured *measured);
+
 /* Stops at each instruction of a turn and calls `seen` with its address, and with the register of a call's third argument. */
 void step_turn(const struct face *face, const struct measured *measured, void (*seen)(unsigned long at, unsigned long third));
 
-/* Bytes of a painted stack that a turn has written to. */
+/* Bytes of the stack apart, painted before, that a turn has written to. */
 unsigned stack_of(const struct face *face, const struct measured *measured);
 
 #endif

@@ -2,8 +2,8 @@
  * Do the archive and the plain C give the same answers? Random calls on random modules, sound and unsound:
  * the number, every byte of the module, every byte of the buffer and the answer are compared after each.
  */
-#include "chance.h"
 #include "face.h"
+#include "modules.h"
 
 int printf(const char *format, ...);
 int memcmp(const void *a, const void *b, size_t count);
@@ -37,70 +37,12 @@ struct asked {
 /* How often each call gave each number. */
 static unsigned given[6][10];
 
-/* Is the key in the size? */
-static bool in_size(uint8_t size, unsigned row, unsigned col)
-{
-    return row < size / 16u && (col < size % 16u || col == 12);
-}
-
 /* A size, mostly one that is acceptable. */
 static uint8_t some_size(void)
 {
     if (once_in(12))
         return (uint8_t)chance();
-    return (uint8_t)(16 * (2 + below(7)) + 2 + below(11));
-}
-
-/* A key of the size: its press or release code. */
-static uint8_t some_code(uint8_t size)
-{
-    unsigned row = below(size / 16u), col = below(size % 16u + 1u);
-    if (col == size % 16u)
-        col = 12;
-    return (uint8_t)(128 * below(2) + 16 * row + col);
-}
-
-/* Some keys of the size are held or have a run: one in `odds`. */
-static void some_keys(struct panel *panel, unsigned odds)
-{
-    unsigned row, col;
-    for (row = 0; row < 8; row++) {
-        for (col = 0; col < 13; col++) {
-            if (!in_size(panel->size, row, col) || !once_in(odds))
-                continue;
-            panel->held[13 * row + col] = below(2);
-            panel->run[13 * row + col] = (uint8_t)below(once_in(2) ? 5 : 255);
-        }
-    }
-}
-
-/* Some codes wait, often 15. */
-static void some_queue(struct panel *panel)
-{
-    unsigned i;
-    panel->count = (uint8_t)(once_in(3) ? 15 : below(16));
-    for (i = 0; i < panel->count; i++)
-        panel->queue[i] = some_code(panel->size);
-}
-
-/* A sound module, whether or not calls from reset can lead to it. */
-static struct panel some_panel(void)
-{
-    struct panel panel;
-    panel_reset(&panel);
-    panel.size = (uint8_t)(16 * (2 + below(7)) + 2 + below(11));
-    some_keys(&panel, 1 + below(12));
-    some_queue(&panel);
-    panel.bounce = (uint8_t)(once_in(8) ? chance() : below(6));
-    panel.mask = (uint8_t)below(16);
-    panel.rsint = below(2);
-    panel.rklint = below(2);
-    panel.relint = below(2);
-    panel.porirq = below(2);
-    panel.seen[below(4)] = below(2);
-    panel.seen[below(4)] = below(2);
-    panel.seen[below(4)] = below(2);
-    return panel;
+    return acceptable_size();
 }
 
 /* One byte of the module becomes another; a bool stays one. Mostly that makes it unsound. */

@@ -35,7 +35,7 @@ static void trap(bool on)
     __asm__ volatile("leaq -128(%%rsp), %%rsp\n\tpushq %0\n\tpopfq\n\tleaq 128(%%rsp), %%rsp" : : "r"(flags) : "cc", "memory");
 }
 
-/* One turn to warm up, one in steps. */
+/* One turn to warm up, one in steps: on the stack apart, since some memcpy take more or fewer instructions by where they copy to. */
 void step_turn(const struct face *face, const struct measured *measured, void (*seen)(unsigned long at, unsigned long third))
 {
     struct action action = {stopped, {0}, WITH_CONTEXT, 0};
@@ -43,6 +43,6 @@ void step_turn(const struct face *face, const struct measured *measured, void (*
     sigaction(SIGTRAP, &action, 0);
     turn(face, measured);
     trap(true);
-    turn(face, measured);
+    turn_apart(face, measured);
     trap(false);
 }

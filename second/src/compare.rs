@@ -72,7 +72,8 @@ pub fn planted_difference(script: &[Line], planted: Planted) -> Option<Differenc
     None
 }
 
-/// Gives a console program the whole script and takes its whole output.
+/// Gives a console program the whole script and takes its whole output. An end with another
+/// status than 0 counts as one answer more.
 pub fn run_program(program: &[OsString], script: &[Line]) -> io::Result<Vec<Line>> {
     let mut child = Command::new(&program[0])
         .args(&program[1..])
@@ -88,11 +89,15 @@ pub fn run_program(program: &[OsString], script: &[Line]) -> io::Result<Vec<Line
     // The answers must be read while the script is written, or both sides could wait for ever.
     // A program that stops reading early shows by its answers.
     let writer = thread::spawn(move || pipe.map(|mut pipe| pipe.write_all(&input)));
-    let output = child.wait_with_output()?.stdout;
+    let output = child.wait_with_output()?;
     let _ = writer.join();
-    let mut answers: Vec<Line> = output.split(|byte| *byte == b'\n').map(Line::from).collect();
+    let lines = output.stdout.split(|byte| *byte == b'\n');
+    let mut answers: Vec<Line> = lines.map(Line::from).collect();
     if answers.last().map_or(false, Line::is_empty) {
         answers.pop();
+    }
+    if !output.status.success() {
+        answers.push(format!("(the program's end: {})", output.status).into_bytes());
     }
     Ok(answers)
 }

@@ -91,6 +91,16 @@ fn compare_shows_a_program_that_answers_unasked() {
 }
 
 #[test]
+fn compare_shows_a_program_that_ends_badly() {
+    let output = run(&["compare", "9", "500", "sh", "-c", "\"$0\"; exit 3", SECOND]);
+    assert_eq!(output.status.code(), Some(1));
+    assert!(text(&output).contains("second module: (no answer)"));
+    assert!(text(&output).contains("the program:   (the program's end: exit status: 3)"));
+    let output = run(&["compare", "9", "500", "sh", "-c", "\"$0\"; exit 0", SECOND]);
+    assert_eq!(output.status.code(), Some(0));
+}
+
+#[test]
 fn words_that_make_no_sense() {
     let cases: [&[&str]; 10] = [
         &["foo"],

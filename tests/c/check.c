@@ -1,11 +1,12 @@
 /* The checks that the tests share, and the program's start. */
 #include "check.h"
 
-/* The group that runs, the checks that failed so far, and those that had when it began. */
+/* The group that runs, the checks made and failed so far, and those that had failed when it began. */
 static const char *kind = "";
 static const char *name = "";
-static int failed;
-static int failed_before;
+static unsigned checked;
+static unsigned failed;
+static unsigned failed_before;
 
 void group(const char *of_kind, const char *called)
 {
@@ -21,6 +22,7 @@ void group_ends(void)
 
 void check_same(unsigned got, unsigned wanted, const char *words, const char *file, int line)
 {
+    checked++;
     if (got == wanted)
         return;
     failed++;
@@ -73,5 +75,6 @@ int main(void)
     accesses();
     declined();
     states();
+    printf("checks: %u made, %u failed\n", checked, failed);
     return failed ? 1 : 0;
 }

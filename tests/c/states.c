@@ -1,81 +1,6 @@
-/* Modules that no call from reset leaves behind: unsound ones are declined with 8, sound ones are served. */
+/* Modules made by hand: unsound ones are declined with 8, sound ones are served. */
 #include "check.h"
-
-/* A module after reset with some bytes changed, up to the first entry of no bytes. */
-struct change {
-    size_t at;
-    size_t bytes;
-    uint8_t value;
-};
-
-struct state {
-    const char *name;
-    struct change changes[6];
-};
-
-#define TO(field, value) {offsetof(struct panel, field), 1, value}
-#define HELD_KEY(row, col) {offsetof(struct panel, held) + 13 * (row) + (col), 1, 1}
-#define RUN_OF(row, col, value) {offsetof(struct panel, run) + 13 * (row) + (col), 1, value}
-#define PLACE(n, value) {offsetof(struct panel, queue) + (n), 1, value}
-#define PLACES(count, value) {offsetof(struct panel, queue), count, value}
-#define MARKS(count) {offsetof(struct panel, seen), count, 1}
-
-static const struct state unsound[] = {
-    {"size 00", {TO(size, 0x00)}},
-    {"size 1C", {TO(size, 0x1C)}},
-    {"size 2D", {TO(size, 0x2D)}},
-    {"size 92", {TO(size, 0x92)}},
-    {"size 81", {TO(size, 0x81)}},
-    {"size 21", {TO(size, 0x21)}},
-    {"row 2 column 0 held", {HELD_KEY(2, 0)}},
-    {"row 0 column 2 held", {HELD_KEY(0, 2)}},
-    {"row 0 column 2 with a run", {RUN_OF(0, 2, 1)}},
-    {"row 7 column 12 with a run", {RUN_OF(7, 12, 1)}},
-    {"a run of 255", {RUN_OF(0, 0, 255)}},
-    {"16 wait", {TO(count, 16)}},
-    {"255 wait", {TO(count, 255)}},
-    {"16 wait, 15 places with codes", {TO(count, 16), PLACES(15, 0x00)}},
-    {"7F waits", {TO(count, 1), PLACE(0, 0x7F)}},
-    {"FF waits", {TO(count, 1), PLACE(0, 0xFF)}},
-    {"0D waits", {TO(count, 1), PLACE(0, 0x0D)}},
-    {"0F waits", {TO(count, 1), PLACE(0, 0x0F)}},
-    {"02 waits, out of size 22", {TO(count, 1), PLACE(0, 0x02)}},
-    {"82 waits, out of size 22", {TO(count, 1), PLACE(0, 0x82)}},
-    {"20 waits, out of size 22", {TO(count, 1), PLACE(0, 0x20)}},
-    {"1D waits", {TO(count, 1), PLACE(0, 0x1D)}},
-    {"none waits, place 0 is 00", {PLACE(0, 0x00)}},
-    {"one waits, place 14 is 11", {TO(count, 1), PLACE(0, 0x00), PLACE(14, 0x11)}},
-    {"mask 10", {TO(mask, 0x10)}},
-    {"all four marks", {MARKS(4)}},
-};
-
-static const struct state sound[] = {
-    {"a run of 254, D 1", {RUN_OF(0, 0, 254), TO(bounce, 1)}},
-    {"three marks, no RSINT", {MARKS(3)}},
-    {"RELINT, none waits", {TO(relint, 1)}},
-    {"RKLINT without RSINT", {TO(rklint, 1)}},
-    {"00 00 80 80 wait, the key open", {TO(count, 4), PLACE(0, 0x00), PLACE(1, 0x00), PLACE(2, 0x80), PLACE(3, 0x80)}},
-    {"0C waits", {TO(count, 1), PLACE(0, 0x0C)}},
-    {"8C waits", {TO(count, 1), PLACE(0, 0x8C)}},
-    {"1C waits", {TO(count, 1), PLACE(0, 0x1C)}},
-    {"9C waits", {TO(count, 1), PLACE(0, 0x9C)}},
-    {"15 wait, no RELINT", {TO(count, 15), PLACES(15, 0x00)}},
-    {"a key held, nothing queued", {HELD_KEY(0, 0)}},
-    {"a run of 5, D 0", {RUN_OF(0, 0, 5), TO(bounce, 0)}},
-};
-
-#define LENGTH(list) (sizeof(list) / sizeof((list)[0]))
-
-static struct panel made(const struct state *state)
-{
-    struct panel panel = after_reset();
-    const struct change *change = state->changes;
-    while (change < state->changes + 6 && change->bytes > 0) {
-        memset((uint8_t *)&panel + change->at, change->value, change->bytes);
-        change++;
-    }
-    return panel;
-}
+#include "made.h"
 
 /* Every call but reset gives the number; before 8 nothing else is asked. */
 static void look_gives(const struct panel *was, size_t count, unsigned number)
@@ -126,7 +51,7 @@ static void unsound_ones(void)
 {
     struct panel panel;
     size_t i;
-    for (i = 0; i < LENGTH(unsound); i++) {
+    for (i = 0; i < unsound_count; i++) {
         panel = made(&unsound[i]);
         group("unsound, 8", unsound[i].name);
         all_give(&panel, 8);
@@ -146,7 +71,7 @@ static void sound_ones(void)
 {
     struct panel panel;
     size_t i;
-    for (i = 0; i < LENGTH(sound); i++) {
+    for (i = 0; i < sound_count; i++) {
         panel = made(&sound[i]);
         group("sound, served", sound[i].name);
         all_give(&panel, 0);

@@ -2,6 +2,7 @@
 -- Assumes nothing.
 use mathlib.Core.Path.{_≡_, refl}
 use mathlib.Core.List.{List, [], _∷_}
+use lib.ListN.{length}
 use lib.Dec.{eqb}
 use Rattle.words.specs.Words.{all, without, bit}
 use Rattle.registers.specs.declared.Register.{Register}
@@ -17,6 +18,6 @@ use mathlib.Core.Bool.{true}
 readable : List Register
 readable = KBDBOUNCE ∷ KBDSIZE ∷ KBDRIS ∷ KBDMIS ∷ KBDMSK ∷ KBDCODE 0 ∷ KBDCODE 1 ∷ KBDCODE 2 ∷ KBDCODE 3 ∷ EVTCODE ∷ []
 
-reset-right : all (λ r. eqb (byteOf fresh r) (afterReset r)) readable ≡ true
+reset-right : (length readable ≡ 10) × (all (λ r. eqb (byteOf fresh r) (afterReset r)) readable ≡ true)
 unfolding all readable byteOf fresh forgotten afterReset waits oldest weigh ris mis without bit heldCodes more nth picture
-reset-right = refl
+reset-right = (refl, refl)

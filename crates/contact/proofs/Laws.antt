@@ -7,6 +7,7 @@
 --    run-low          no run is above 254, where every KBDBOUNCE is a byte
 --    changes-to       a contact changes to what its newest sample is
 --    other            a sample that isn't as held is the opposite
+--    opposite-flips, opposite-stays    the other way is the opposite, and the same is not
 --    reached, ahead   the tests of the code, said as the step's
 -- Assumes nothing.
 use Prim.Native.Nat.{ℕ, zero, suc, _+_, _≤_, _<_}
@@ -98,6 +99,16 @@ other true true e = cc
 other true false e = refl
 other false true e = refl
 other false false e = cc
+
+pub opposite-flips : (held : Bool) → opposite held (not held) ≡ true
+unfolding opposite
+opposite-flips true = refl
+opposite-flips false = refl
+
+pub opposite-stays : (held : Bool) → opposite held held ≡ false
+unfolding opposite
+opposite-stays true = refl
+opposite-stays false = refl
 
 pub changes-to : (d : ℕ) (held s : Bool) (ss : List Bool) → changes d held (s ∷ ss) ≡ true → s ≡ not held
 unfolding runOf opposite

@@ -14,3 +14,4 @@ pub mod Refuted
 pub mod Sessions
 pub mod Determined
 pub mod Source
+pub mod Total

@@ -25,7 +25,7 @@ use Rattle.demands.specs.Demands.{Demand1, NeverUnsound, Demand2, Demand
 use Rattle.demands.specs.Ours.{ours}
 use Rattle.demands.proofs.Sound.{no-strays-shown}
 use Rattle.demands.proofs.Rows.{numbers-exact, declined-alters-nothing}
-use Rattle.demands.proofs.Reached.{reached, reached-sound}
+use Rattle.demands.proofs.Reached.{reached, reached-said}
 use Rattle.demands.proofs.Observed.{bytes-observed, held-observed, line-observed, fetched-taken, seen-waiting, none-waits, relint-observed}
 
 -- "1. The module takes every call, with every value, and finishes it. What it can't do it declines with a number from our list,
@@ -37,7 +37,7 @@ ours-demand1 = record { exact = numbers-exact; declined = declined-alters-nothin
 pub ours-never-unsound : NeverUnsound ours
 ours-never-unsound =
     record {
-      never = reached-sound;
+      never = reached-said;
       nowhere = λ cs s. ap (λ (m : Module). strays m s) (reached cs) ∙ no-strays-shown (done ours cs) s;
     }
 

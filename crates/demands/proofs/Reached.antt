@@ -5,12 +5,13 @@
 --    called-after                 one call
 --    reached                      EVERY LIST OF CALLS
 --    reached-fitting              the bytes written fit, so that reached modules are sound
---    reached-sound                a reached module is sound
+--    reached-sound                a reached module is sound; reached-said: so document 01's sentences hold of it
+--    reached-typed                and it is as the struct's types say
 --    read-done, held-done, line-done    so these calls are done
 -- Assumes nothing.
 use Prim.Native.Nat.{ℕ, zero, suc, _<_}
 use native.Mathlib.Omega.{arith}
-use mathlib.Core.Path.{_≡_, refl, ap, _∙_}
+use mathlib.Core.Path.{_≡_, refl, sym, ap, _∙_, subst}
 use mathlib.Core.Bool.{Bool, true, false, cond, not, _&&_}
 use mathlib.Core.List.{List, [], _∷_}
 use borrow.Author.Tests.{le-leb, ltb-true}
@@ -27,7 +28,10 @@ use Rattle.judge.specs.Lines.{byteFits, sizesFit, accessLines, writeLines}
 use Rattle.sheet.specs.Sheet as sheet
 use Rattle.sheet.specs.Sheet.{Past, looked, wrote, got}
 use Rattle.state.specs.declared.Module.{Module}
+use Rattle.state.specs.Typed.{Typed}
 use Rattle.sound.specs.Sound.{sound}
+use Rattle.sound.specs.Said.{Said}
+use Rattle.sound.proofs.Exactly.{sound-said}
 use Rattle.scan.specs.Scan as scan
 use Rattle.access.specs.Bytes.{byteOf}
 use Rattle.access.specs.Accesses as access
@@ -39,7 +43,7 @@ use Rattle.demands.specs.Ours.{changing, asking, called, ours}
 use Rattle.demands.specs.Shown.{after, shown, fitting}
 use Rattle.demands.proofs.Simulation.{as-the-sheet-says}
 use Rattle.demands.proofs.Answers.{byte-shown}
-use Rattle.demands.proofs.Sound.{shown-sound}
+use Rattle.demands.proofs.Sound.{shown-sound, shown-typed}
 
 -- ---- the bytes of an access
 writes-after : (a : ℕ) (bs : List ℕ) (past : Past) → access.wrote (after past) a bs ≡ after (wrotes a bs past)
@@ -147,3 +151,9 @@ reached-fitting (c ∷ cs) t =
 -- "Number 8 is given .. never for a state reached by calls from reset."
 pub reached-sound : (cs : List Call) → all fits cs ≡ true → sound (machine.after ours cs) ≡ true
 reached-sound cs t = ap sound (reached cs) ∙ shown-sound (done ours cs) (reached-fitting cs t)
+
+pub reached-typed : (cs : List Call) → all fits cs ≡ true → Typed (machine.after ours cs)
+reached-typed cs t = subst Typed (sym (reached cs)) (shown-typed (done ours cs) (reached-fitting cs t))
+
+pub reached-said : (cs : List Call) → all fits cs ≡ true → Said (machine.after ours cs)
+reached-said cs t = sound-said (machine.after ours cs) (reached-typed cs t) (reached-sound cs t)

@@ -5,13 +5,16 @@
 --    Told, told                 what is found of each machine, and what was to be found: ALL COMPUTED
 --    declining-refuted, ..      no wrong machine meets the demand
 -- Assumes nothing.
-use Prim.Native.Nat.{ℕ}
+use Prim.Native.Nat.{ℕ, _≤_}
 use native.Mathlib.Omega.{arith}
 use mathlib.Core.Path.{_≡_, refl, sym, ap, _∙_}
 use mathlib.Core.Bool.{false}
 use mathlib.Core.List.{List, [], _∷_}
 use lib.ListN.{replicate}
+use lib.Dec.{ltb}
+use borrow.Author.Tests.{ltb-true}
 use Rattle.words.specs.Words.{every, all, allBelow, among, some, bit, without, table}
+use Rattle.words.proofs.Lists.{all-anywhere, all-replicate}
 use Rattle.numbers.specs.Numbers.{numberOf}
 use Rattle.keys.specs.Keys.{isKey, keyAt, rowOf, colOf, pressCode, releaseCode, code, keyOf, acceptable, inSize, keyIn, sample}
 use Rattle.contact.specs.Contact as contact
@@ -24,9 +27,10 @@ use Rattle.sheet.specs.Ledger.{codeGot, room, arriving, kept, lost, coming, arr
 use Rattle.sheet.specs.Ledger as ledger
 use Rattle.state.specs.declared.Module.{Module}
 use Rattle.state.specs.Module as state
-use Rattle.state.specs.Module.{fresh, forgotten}
+use Rattle.state.specs.Module.{fresh, forgotten, withBounce, withMask}
+use Rattle.state.specs.Typed.{Typed}
 use Rattle.state.specs.Queue as queues
-use Rattle.flags.specs.Flags.{weigh, ris}
+use Rattle.flags.specs.Flags.{weigh, ris, mis, line}
 use Rattle.picture.specs.Picture as picture
 use Rattle.sound.specs.Sound.{keySound, keysSound, codesSound, restUnused, sound}
 use Rattle.scan.specs.Scan as scan
@@ -38,7 +42,7 @@ use Rattle.demands.specs.Table.{rules}
 use Rattle.demands.specs.Demands.{Demand1, Demand2, Demand3, NoSilentLoss, bytesOf}
 use Rattle.demands.specs.Ours.{changing, asking, called, ours}
 use Rattle.demands.specs.Sessions.{same}
-use Rattle.demands.specs.Wrong.{usual, calledBy, declined, declining, blankBytes, stays, blank, stuck, nothing, asleep, onlyFirst, once, madeUp, inventive, runsKept, remembering, roomFor, keysKept, unchanged, emptied, emptying, pastState, pastBytes, passing, takenFirst, hurried, hasty, putLate, putAllLate, oldestLost, forgetful, single, singleStays, singleBlank, stingy, silent}
+use Rattle.demands.specs.Wrong.{usual, calledBy, declined, declining, blankBytes, stays, blank, stuck, nothing, asleep, carried, ignoring, handled, firstLook, onlyFirst, once, madeUp, inventive, runsKept, remembering, roomFor, keysKept, unchanged, quiet, hushing, hushed, lowering, emptied, emptying, trusted, trusting, pastState, pastBytes, passing, takenFirst, hurried, hasty, putLate, putAllLate, oldestLost, forgetful, single, singleStays, singleBlank, stingy, silent}
 use Rattle.demands.specs.Wrong as wrong
 use Rattle.demands.proofs.Failing.{LedgerWrong, no-ledger, KeyWrong, no-key, BytesWrong, no-bytes, ProgressWrong, no-progress, LossWrong, no-report}
 use Rattle.demands.proofs.Numbers.{first-only}
@@ -46,7 +50,7 @@ use Rattle.demands.proofs.Rows.{numbers-exact}
 
 -- ---- ours, but for one effect
 built-usual : (m : Module) (c : Call) → calledBy usual m c ≡ called m c
-unfolding calledBy called lookCall writeCall readCall readBuffer
+unfolding calledBy called lookCall writeCall readCall readBuffer lineCall
 built-usual m reset = refl
 built-usual m (look s) = refl
 built-usual m (write a bs) = refl
@@ -67,9 +71,29 @@ pressed = rows 0 0x0002 ∷ write 0x02 (1 ∷ []) ∷ []
 restarted : List Call
 restarted = rows 0 0x0002 ∷ write 0x03 (0x22 ∷ []) ∷ rows 0 0x0002 ∷ write 0x02 (2 ∷ []) ∷ []
 
+-- the same key closed in the second look, with bounce 1
+second : List Call
+second = rows 0 0x0002 ∷ rows 0 0 ∷ write 0x02 (1 ∷ []) ∷ []
+
 -- sixteen keys closed in one look, with bounce 1 and size 8C
 sixteen : List Call
 sixteen = rows 0x0FFF 0x000F ∷ write 0x02 (1 ∷ 0x8C ∷ []) ∷ []
+
+-- a state like that after reset, with a mask and a bounce; unsound where the mask is above 0x0F
+settings : ℕ → ℕ → Module
+settings mask bounce = withBounce (withMask fresh mask) bounce
+
+settings-typed : (mask bounce : ℕ) → bounce ≤ 255 → Typed (settings mask bounce)
+unfolding settings fresh forgotten
+settings-typed mask bounce low =
+    record {
+      keys = refl;
+      runs = refl;
+      places = refl;
+      bytes = λ i. ltb-true _ 256 (all-anywhere (λ c. ltb c 256) 0 refl (replicate 15 0x7F) (all-replicate (λ c. ltb c 256) 15 0x7F refl) i);
+      bounce-low = low;
+      marks = refl;
+    }
 
 -- a code waits, and a read of 33 bytes of EVTCODE, though it is declined, takes it out
 abbrev TakenWrong : Type 0
@@ -80,16 +104,19 @@ TakenWrong =
 
 -- ---- what is found, and what was to be found
 record Told : Type 0 where
-  declining : called fresh interrupt .number ≡ 0
+  declining : called (settings 0x03 0x03) interrupt .number ≡ 0
+  trusting : (called (settings 0x37 0xC5) interrupt .number ≡ 8) × (trusted (settings 0x37 0xC5) interrupt .number ≡ 0)
   blank-bytes : BytesWrong blank pressed 0x10 (0x7F ∷ []) (0x11 ∷ [])
   blank : LedgerWrong blank pressed [] (0x11 ∷ [])
   stuck-bytes : BytesWrong stuck pressed 0x10 (0x7F ∷ []) (0x11 ∷ [])
   stuck : LedgerWrong stuck pressed [] (0x11 ∷ [])
   asleep : KeyWrong asleep pressed 1 1 false
+  firstLook : LedgerWrong firstLook second [] (0x11 ∷ [])
   once : LedgerWrong once (rows 0 0 ∷ pressed) (0x11 ∷ []) (0x11 ∷ 0x91 ∷ [])
   inventive : LedgerWrong inventive (rows 0 0 ∷ []) (0x00 ∷ []) []
   remembering : LedgerWrong remembering restarted (0x11 ∷ []) []
   unchanged : KeyWrong unchanged sixteen 1 3 false
+  lowering : BytesWrong lowering (write 0x08 (0xFF ∷ []) ∷ pressed) 0x06 (0x00 ∷ []) (0x04 ∷ [])
   emptying : LedgerWrong emptying (write 0x08 (0x02 ∷ []) ∷ pressed) [] (0x11 ∷ [])
   passing : BytesWrong passing [] 0x10 (0x7F ∷ 0x00 ∷ []) (0x7F ∷ 0x7F ∷ [])
   hasty : TakenWrong
@@ -98,19 +125,22 @@ record Told : Type 0 where
   silent : LossWrong silent sixteen
 
 told : Told
-unfolding LedgerWrong KeyWrong BytesWrong ProgressWrong LossWrong same rows pressed restarted sixteen after done happened wrotes gots fits fetched fetchedBy covers codesIn seen bytesOf calledBy changing asking outcome answer resetCall heldCall lineCall lookNumber writeNumber readNumber heldNumber lineNumber lookLines heldLines sampleLines accessLines byteFits sizesFit readLines writeLines high numberOf runAllowed addresses next registerAt allowed address _is_ sound keySound keysSound codesSound restUnused scan.strays scan.looked scan.contacts scan.noticed scan.changes scan.changesBelow scan.contactAt access.wrote access.readAll access.bytesRead bytes.written bytes.readOut bytes.byteOf queues.waiting queues.waits queues.put queues.putAll queues.oldest queues.shifted queues.taken picture.allRead picture.marked fresh state.restarted forgotten stepped looks opposite samples heldAfter contact.changes isKey keyAt rowOf colOf pressCode releaseCode code keyOf acceptable inSize keyIn sample every all allBelow among some bit without table sheet.bounce sheet.size sheet.history sheet.held sheet.changed sheet.change sheet.changesBelow sheet.changes sheet.waiting sheet.oldest sheet.byteOf codeGot room arriving kept coming arrivals ledger.taken blankBytes stays nothing onlyFirst madeUp runsKept roomFor keysKept emptied pastState pastBytes hurried takenFirst called lookCall writeCall readCall readBuffer oldestLost putLate putAllLate single singleStays singleBlank wrong.unreported unreported lost weigh ris
+unfolding LedgerWrong KeyWrong BytesWrong ProgressWrong LossWrong same rows pressed restarted sixteen after done happened wrotes gots fits fetched fetchedBy covers codesIn seen bytesOf calledBy changing asking outcome answer resetCall heldCall lineCall lookNumber writeNumber readNumber heldNumber lineNumber lookLines heldLines sampleLines accessLines byteFits sizesFit readLines writeLines high numberOf runAllowed addresses next registerAt allowed address _is_ sound keySound keysSound codesSound restUnused scan.strays scan.looked scan.contacts scan.noticed scan.changes scan.changesBelow scan.contactAt access.wrote access.readAll access.bytesRead bytes.written bytes.readOut bytes.byteOf queues.waiting queues.waits queues.put queues.putAll queues.oldest queues.shifted queues.taken picture.allRead picture.marked fresh state.restarted forgotten stepped looks opposite samples heldAfter contact.changes isKey keyAt rowOf colOf pressCode releaseCode code keyOf acceptable inSize keyIn sample every all allBelow among some bit without table sheet.bounce sheet.size sheet.history sheet.held sheet.changed sheet.change sheet.changesBelow sheet.changes sheet.waiting sheet.oldest sheet.byteOf sheet.ris sheet.flags sheet.revtint sheet.rsint sheet.rklint sheet.relint sheet.marks sheet.allRead sheet.cleared codeGot room arriving kept coming arrivals ledger.taken blankBytes stays nothing onlyFirst madeUp runsKept roomFor keysKept emptied pastState pastBytes hurried takenFirst called lookCall writeCall readCall readBuffer oldestLost putLate putAllLate single singleStays singleBlank wrong.unreported unreported lost weigh ris line mis carried ignoring handled quiet hushing hushed trusted settings second
 told =
     record {
       declining = refl;
+      trusting = (refl, refl);
       blank-bytes = (refl, refl, refl, refl);
       blank = (refl, refl, refl, refl);
       stuck-bytes = (refl, refl, refl, refl);
       stuck = (refl, refl, refl, refl);
       asleep = (refl, refl, refl);
+      firstLook = (refl, refl, refl, refl);
       once = (refl, refl, refl, refl);
       inventive = (refl, refl, refl, refl);
       remembering = (refl, refl, refl, refl);
       unchanged = (refl, refl, refl);
+      lowering = (refl, refl, refl, refl);
       emptying = (refl, refl, refl, refl);
       passing = (refl, refl, refl, refl);
       hasty = (refl, refl, refl);
@@ -124,7 +154,9 @@ told =
 pub declining-refuted : Demand1 declining → ⊥
 unfolding declined rules
 declining-refuted d =
-    let e : 8 ≡ called fresh interrupt .number = first-only (rules ours fresh interrupt) 8 (called fresh interrupt .number) (d .exact fresh interrupt) (numbers-exact fresh interrupt) in
+    let m = settings 0x03 0x03 in
+    let t = settings-typed 0x03 0x03 (omega arith) in
+    let e : 8 ≡ called m interrupt .number = first-only (rules ours m interrupt) 8 (called m interrupt .number) (d .exact m t interrupt) (numbers-exact m t interrupt) in
     omega (arith, e ∙ told .declining)
 
 -- "one whose EVTCODE is always 7F" (the history rule, demand 2), the code being taken out
@@ -147,8 +179,8 @@ pub asleep-refuted : Demand2 asleep → ⊥
 asleep-refuted = no-key asleep pressed 1 1 false (omega arith) (omega arith) (told .asleep)
 
 -- "one that handles the first look and ignores later ones (demand 3, over all looks)"
-pub once-refuted : Demand3 once → ⊥
-once-refuted = no-ledger once _ _ _ (told .once)
+pub first-look-refuted : Demand3 firstLook → ⊥
+first-look-refuted = no-ledger firstLook second _ _ (told .firstLook)
 
 -- "one with a made-up number waiting (demand 3 ties the queue to the history)"
 pub inventive-refuted : Demand3 inventive → ⊥
@@ -164,8 +196,8 @@ pub unchanged-refuted : Demand2 unchanged → ⊥
 unchanged-refuted = no-key unchanged sixteen 1 3 false (omega arith) (omega arith) (told .unchanged)
 
 -- "Clearing REVTINT on a KBDIC write while codes wait."
-pub emptying-refuted : Demand3 emptying → ⊥
-emptying-refuted = no-ledger emptying _ _ _ (told .emptying)
+pub lowering-refuted : Demand2 lowering → ⊥
+lowering-refuted = no-bytes lowering _ 0x06 _ _ (told .lowering)
 
 -- "Stepping past EVTCODE in a long read"
 pub passing-refuted : Demand2 passing → ⊥
@@ -184,6 +216,23 @@ pub forgetful-refuted : Demand3 forgetful → ⊥
 forgetful-refuted = no-ledger forgetful sixteen _ _ (told .forgetful)
 
 -- ---- beyond document 01's list
+-- a look does nothing once a code waits
+pub once-refuted : Demand3 once → ⊥
+once-refuted = no-ledger once _ _ _ (told .once)
+
+-- KBDIC empties the queue
+pub emptying-refuted : Demand3 emptying → ⊥
+emptying-refuted = no-ledger emptying _ _ _ (told .emptying)
+
+-- "Number 8 is given exactly otherwise": a state with KBDMSK 0x37 is served
+pub trusting-refuted : Demand1 trusting → ⊥
+unfolding rules
+trusting-refuted d =
+    let m = settings 0x37 0xC5 in
+    let t = settings-typed 0x37 0xC5 (omega arith) in
+    let e = first-only (rules ours m interrupt) (trusted m interrupt .number) (called m interrupt .number) (d .exact m t interrupt) (numbers-exact m t interrupt) in
+    omega (arith, e, told .trusting)
+
 -- the ledger alone would let this one pass: its codes can be seen, but not fetched one by one
 pub stingy-refuted : Demand3 stingy → ⊥
 stingy-refuted = no-progress stingy pressed _ _ (told .stingy)

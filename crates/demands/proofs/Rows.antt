@@ -5,9 +5,9 @@
 --    size-place                 KBDSIZE is at 0x03 and nowhere else
 --    decide-sizes               "a byte for KBDSIZE isn't acceptable"
 --    decide-key                 "row above 7 or column above 12"
+--    unsound-decided            "module state unsound": document 01's sentences, by Said
 --    numbers-exact              EVERY CALL, IN EVERY STATE, gives the number of the first row that holds
 --    declined-alters-nothing    a number that isn't 0 leaves state and buffer as they came, and a question's answer is no
---    unsound-means              the row 8 for ours: not all is so that "A state is sound when:" lists
 --    astray-means               the row 9 for ours: some key out of the size changes
 -- Assumes nothing.
 use Prim.Native.Nat.{ℕ, zero, suc, _-_, _<_, _≤_}
@@ -22,6 +22,7 @@ use lib.Dec.{eqb, leb}
 use lib.ListN.{length, getD}
 use Rattle.words.specs.Words.{all, allBelow, bit}
 use Rattle.words.proofs.Laws.{true-false, and-left, and-right, all-first, all-rest, all-below}
+use Rattle.words.proofs.Lists.{all-at}
 use Rattle.keys.specs.Keys.{isKey, acceptable, keyIn}
 use Rattle.keys.proofs.Laws.{key-yes, key-row, key-col}
 use Rattle.registers.specs.declared.Register.the-variants.{KBDBOUNCE, KBDSIZE, KBDRIS, KBDMIS, KBDIC, KBDMSK, KBDCODE, EVTCODE, RSTINTCLR, Unknown}
@@ -31,14 +32,15 @@ use Rattle.registers.specs.Registers.{registerAt, address, allowed, _is_}
 use Rattle.registers.specs.Runs.{next, addresses, runAllowed}
 use Rattle.judge.specs.Lines.{high, byteFits, sizesFit, sampleLines, accessLines, readLines, writeLines}
 use Rattle.state.specs.declared.Module.{Module}
-use Rattle.sound.specs.Sound.{sound, Sound}
-use Rattle.sound.proofs.Laws.{sound-facts, facts-sound}
+use Rattle.state.specs.Typed.{Typed}
+use Rattle.sound.specs.Sound.{sound}
+use Rattle.sound.proofs.Exactly.{sound-said, said-sound}
 use Rattle.scan.specs.Scan.{contactAt, strays}
 use Rattle.calls.specs.Calls.{lookLines, heldLines, lookNumber, writeNumber, readNumber, heldNumber, lineNumber, outcome, answer, resetCall, lookCall, writeCall, readCall, readBuffer, heldCall, lineCall}
 use Rattle.demands.specs.Machine.{Call, reset, look, write, read, held, interrupt, lent}
-use Rattle.demands.specs.Table.{First, place, HighBits, NotAllowed, BadSize, NoKey, rules}
+use Rattle.demands.specs.Table.{First, place, Unsound, HighBits, NotAllowed, BadSize, NoKey, rules}
 use Rattle.demands.specs.Ours.{changing, asking, called, ours}
-use Rattle.demands.proofs.Numbers.{Decides, none, _then_, lines-first, refused, denied, itself, decide-eq, decide-ne, decide-lt}
+use Rattle.demands.proofs.Numbers.{Decides, none, _then_, lines-first, refused, itself, decide-eq, decide-ne, decide-lt}
 
 -- ---- samples
 -- a test that fails of a list fails at a place of it
@@ -51,11 +53,6 @@ fails-at f (x ∷ l) e = go (f x) refl (fails-at f l)
         → (k : ℕ) × ((k < suc (length l)) × (f (getD (x ∷ l) k 0) ≡ false))
     go false g rest = (0, (omega arith, g))
     go true g rest = let r = rest (rw g at e) in (suc (r .0), (omega (arith, r .1 .0), r .1 .1))
-
-all-at : (f : ℕ → Bool) (l : List ℕ) → all f l ≡ true → (k : ℕ) → k < length l → f (getD l k 0) ≡ true
-all-at f [] e k h = absurd (omega arith)
-all-at f (x ∷ l) e zero h = all-first f x l e
-all-at f (x ∷ l) e (suc k) h = all-at f l (all-rest f x l e) k (omega arith)
 
 one-of : (a b c : Bool) → not (a || b || c) ≡ false → (a ≡ true) ⊎ ((b ≡ true) ⊎ (c ≡ true))
 one-of true b c e = inl refl
@@ -77,7 +74,7 @@ unfolding high
 decide-high s =
     refused (all (λ x. not (high x)) s)
     (λ e. let r = fails-at (λ x. not (high x)) s e in (r .0, (r .1 .0, one-of (bit 13 (getD s (r .0) 0)) (bit 14 (getD s (r .0) 0)) (bit 15 (getD s (r .0) 0)) (r .1 .1))))
-    (λ e h. none-of (bit 13 (getD s (h .0) 0)) (bit 14 (getD s (h .0) 0)) (bit 15 (getD s (h .0) 0)) (all-at (λ x. not (high x)) s e (h .0) (h .1 .0)) (h .1 .1))
+    (λ e h. none-of (bit 13 (getD s (h .0) 0)) (bit 14 (getD s (h .0) 0)) (bit 15 (getD s (h .0) 0)) (all-at (λ x. not (high x)) 0 s e (h .0) (h .1 .0)) (h .1 .1))
 
 -- ---- runs of addresses
 place-next : (a k : ℕ) → place (next a) k ≡ next (place a k)
@@ -182,21 +179,26 @@ key-some row col e (inr h) = omega (arith, key-col row col e)
 decide-key : (row col : ℕ) → Decides (not (isKey row col)) (NoKey row col)
 decide-key row col = refused (isKey row col) (key-none row col) (key-some row col)
 
+-- ---- the state
+-- "module state unsound"
+pub unsound-decided : (m : Module) → Typed m → Decides (not (sound m)) (Unsound m)
+unsound-decided m t = refused (sound m) (λ e h. true-false (sym (said-sound m t h) ∙ e)) (λ e h. h (sound-said m t e))
+
 -- ---- every call
 module _ (m : Module) where
   -- "What it can't do it declines with a number from our list"
-  pub numbers-exact : (c : Call) → First (rules ours m c) (called m c .number)
+  pub numbers-exact : Typed m → (c : Call) → First (rules ours m c) (called m c .number)
   unfolding called changing asking resetCall lookCall writeCall readCall heldCall lineCall outcome answer lookNumber writeNumber readNumber heldNumber lineNumber lookLines heldLines sampleLines readLines writeLines accessLines rules First
-  numbers-exact reset = refl
-  numbers-exact (look s) = lines-first (denied (sound m) then decide-ne (length s) 8 then decide-high s then itself (strays m s) then none)
-  numbers-exact (write a bs) =
+  numbers-exact t reset = refl
+  numbers-exact t (look s) = lines-first (unsound-decided m t then decide-ne (length s) 8 then decide-high s then itself (strays m s) then none)
+  numbers-exact t (write a bs) =
       let n = length bs in
-      lines-first (denied (sound m) then decide-eq n 0 then decide-lt 32 n then decide-run Write a n then decide-sizes a bs then none)
-  numbers-exact (read a out) =
+      lines-first (unsound-decided m t then decide-eq n 0 then decide-lt 32 n then decide-run Write a n then decide-sizes a bs then none)
+  numbers-exact t (read a out) =
       let n = length out in
-      lines-first (denied (sound m) then decide-eq n 0 then decide-lt 32 n then decide-run Read a n then none)
-  numbers-exact (held row col) = lines-first (denied (sound m) then decide-key row col then none)
-  numbers-exact interrupt = lines-first (denied (sound m) then none)
+      lines-first (unsound-decided m t then decide-eq n 0 then decide-lt 32 n then decide-run Read a n then none)
+  numbers-exact t (held row col) = lines-first (unsound-decided m t then decide-key row col then none)
+  numbers-exact t interrupt = lines-first (unsound-decided m t then none)
 
   -- "and a declined call alters neither the module nor the caller's buffer"; "for a question the answer no"
   pub declined-alters-nothing : (c : Call) → (called m c .number ≡ 0 → ⊥) → (called m c .next ≡ m) × ((called m c .buffer ≡ lent c) × (called m c .answer ≡ false))
@@ -208,11 +210,7 @@ module _ (m : Module) where
   declined-alters-nothing (held row col) h = (refl, (refl, rw (ne-eqb (heldNumber m row col) 0 h)))
   declined-alters-nothing interrupt h = (refl, (refl, rw (ne-eqb (lineNumber m) 0 h)))
 
--- ---- rows 8 and 9, for ours
--- "A state is sound when:", fact by fact
-pub unsound-means : (m : Module) → Decides (not (sound m)) (Sound m → ⊥)
-unsound-means m = refused (sound m) (λ e h. true-false (sym (facts-sound m h) ∙ e)) (λ e h. h (sound-facts m e))
-
+-- ---- row 9, for ours
 below-fails-at : (f : ℕ → Bool) (n : ℕ) → allBelow f n ≡ false → (k : ℕ) × ((k < n) × (f k ≡ false))
 unfolding allBelow
 below-fails-at f zero e = true-false e

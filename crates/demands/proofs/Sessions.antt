@@ -4,6 +4,7 @@
 -- Assumes nothing.
 use mathlib.Core.Path.{_≡_, refl}
 use mathlib.Core.Bool.{true}
+use lib.ListN.{length}
 use Rattle.words.specs.Words.{every, all, allBelow, some, bit, without, table}
 use Rattle.numbers.specs.Numbers.{numberOf}
 use Rattle.keys.specs.Keys.{isKey, keyAt, rowOf, colOf, pressCode, releaseCode, code, keyOf, acceptable, inSize, keyIn, sample}
@@ -25,6 +26,6 @@ use Rattle.demands.specs.Ours.{changing, asking, called, ours}
 use Rattle.demands.specs.Sessions.{same, agrees, passes, sessions}
 
 -- "Those marked P are proved."
-pub sessions-pass : (m : Module) → all (passes ours m) sessions ≡ true
+pub sessions-pass : (m : Module) → (length sessions ≡ 12) × (all (passes ours m) sessions ≡ true)
 unfolding sessions passes agrees same called changing asking resetCall lookCall writeCall readCall readBuffer heldCall lineCall outcome answer lookNumber writeNumber readNumber heldNumber lineNumber lookLines heldLines sampleLines accessLines byteFits sizesFit readLines writeLines high numberOf sound keySound keysSound codesSound restUnused strays looked contacts noticed changes changesBelow contactAt wrote readAll bytesRead written readOut byteOf waiting waits put putAll oldest shifted taken weigh ris mis line heldCodes more nth picture allRead marked fresh restarted forgotten registerAt allowed address _is_ next addresses runAllowed stepped looks opposite isKey keyAt rowOf colOf pressCode releaseCode code keyOf acceptable inSize keyIn sample every all allBelow some bit without table
-sessions-pass m = refl
+sessions-pass m = (refl, refl)

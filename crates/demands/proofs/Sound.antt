@@ -4,28 +4,31 @@
 --    out-shown          out of the size no key is held, and none has a run
 --    key-shown, codes-shown, rest-shown    what is asked of the keys, the codes that wait, and the unused places
 --    shown-sound        THE MODULE IS SOUND, where the bytes written fit
+--    shown-typed        and is as the struct's types say
 --    no-strays-shown    number 9 is never given
 -- Assumes nothing.
-use Prim.Native.Nat.{ℕ, zero, suc, _-_, _<_}
+use Prim.Native.Nat.{ℕ, _-_, _<_}
+use native.Mathlib.Omega.{arith}
 use mathlib.Core.Path.{_≡_, refl, ap, _∙_}
 use mathlib.Core.Bool.{Bool, true, false, not, _&&_, _||_}
-use mathlib.Core.List.{List, [], _∷_}
-use borrow.Author.Tests.{le-leb, eq-eqb}
-use lib.Dec.{leb, eqb}
-use lib.ListN.{length, getD, replicate}
+use mathlib.Core.List.{List, [], _∷_, _++_}
+use borrow.Author.Tests.{le-leb, eq-eqb, ltb-true}
+use lib.Dec.{leb, ltb, eqb}
+use lib.ListN.{length, getD, replicate, length-append, length-replicate}
 use lib.Seq.{drop-append-seam}
-use Rattle.words.specs.Words.{all}
+use Rattle.words.specs.Words.{all, among}
 use Rattle.words.proofs.Laws.{and-left, and-right, and-both}
-use Rattle.words.proofs.Tables.{table-at}
+use Rattle.words.proofs.Tables.{table-at, table-length}
 use Rattle.keys.specs.Keys.{keyIn, keyOf}
 use Rattle.registers.specs.declared.Register.{Register}
 use Rattle.sheet.specs.Sheet.{Past, looked, wrote, got, size, held, waiting, marks}
-use Rattle.words.proofs.Lists.{by-test}
-use Rattle.sheet.proofs.Facts.{waiting-most, never-all, mask-low}
-use Rattle.sheet.proofs.Sizes.{writes, sizeFits, size-ok, out-open, run-low, waiting-in}
+use Rattle.words.proofs.Lists.{by-test, all-append, all-anywhere, all-replicate}
+use Rattle.sheet.proofs.Facts.{waiting-most, waiting-bytes, never-all, mask-low}
+use Rattle.sheet.proofs.Sizes.{writes, sizeFits, bounce-low, size-ok, out-open, run-low, waiting-in}
 use Rattle.sheet.proofs.Sizes as sizes
 use Rattle.judge.specs.Lines.{byteFits}
 use Rattle.state.specs.Module.{queueOf}
+use Rattle.state.specs.Typed.{Typed}
 use Rattle.sound.specs.Sound.{keySound, codesSound, restUnused, sound, Sound}
 use Rattle.sound.proofs.Laws.{facts-sound}
 use Rattle.scan.specs.Scan.{strays}
@@ -80,16 +83,11 @@ codes-shown : (past : Past) → codesSound (shown past .size) (queueOf (shown pa
 unfolding codesSound shown
 codes-shown past = ap (all (λ c. keyIn (size past) (keyOf c))) (waiting-shown past) ∙ waiting-in past
 
-unused : (n : ℕ) → all (λ c. eqb c 0x7F) (replicate n 0x7F) ≡ true
-unfolding all
-unused zero = refl
-unused (suc n) = unused n
-
 rest-shown : (past : Past) → restUnused (queueOf (shown past)) ≡ true
 unfolding restUnused shown places
 rest-shown past =
     let n = 15 - length (waiting past) in
-    ap (all (λ c. eqb c 0x7F)) (drop-append-seam (waiting past) (replicate n 0x7F)) ∙ unused n
+    ap (all (λ c. eqb c 0x7F)) (drop-append-seam (waiting past) (replicate n 0x7F)) ∙ all-replicate (λ c. eqb c 0x7F) n 0x7F refl
 
 -- ---- all of it
 facts : (past : Past) → fitting past ≡ true → Sound (shown past)
@@ -107,6 +105,23 @@ facts past f =
 
 pub shown-sound : (past : Past) → fitting past ≡ true → sound (shown past) ≡ true
 shown-sound past f = facts-sound (shown past) (facts past f)
+
+pub shown-typed : (past : Past) → fitting past ≡ true → Typed (shown past)
+unfolding shown places
+shown-typed past f =
+    let w = waiting past in
+    let n = 15 - length w in
+    let most = waiting-most past in
+    let long = length-replicate {A = ℕ} n 0x7F in
+    let low : all (λ c. ltb c 256) (w ++ replicate n 0x7F) ≡ true = all-append (λ c. ltb c 256) w (replicate n 0x7F) (waiting-bytes past) (all-replicate (λ c. ltb c 256) n 0x7F refl) in
+    record {
+      keys = table-length (λ k. held k past) 104;
+      runs = table-length (λ k. run k past) 104;
+      places = length-append w (replicate n 0x7F) ∙ omega arith;
+      bytes = λ i. ltb-true _ 256 (all-anywhere (λ c. ltb c 256) 0 refl (w ++ replicate n 0x7F) low i);
+      bounce-low = bounce-low past (bytes-fit past f);
+      marks = table-length (λ n. among n (marks past)) 4;
+    }
 
 pub no-strays-shown : (past : Past) (s : List ℕ) → strays (shown past) s ≡ false
 no-strays-shown past s = no-strays (shown past) (out-shown past) s

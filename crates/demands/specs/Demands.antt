@@ -16,18 +16,21 @@ use Rattle.registers.specs.Runs.{next}
 use Rattle.sheet.specs.Sheet as sheet
 use Rattle.sheet.specs.Sheet.{Past, got}
 use Rattle.sheet.specs.Ledger.{kept, lost, arrivals, unreported}
+use Rattle.state.specs.Typed.{Typed}
+use Rattle.sound.specs.Said.{Said}
 use Rattle.demands.specs.Machine.{Call, read, held, interrupt, Machine, lent, after, done, fits, fetched, seen}
 use Rattle.demands.specs.Table.{First, rules}
 
 -- "1. The module takes every call, with every value, and finishes it. What it can't do it declines with a number from our list,
 -- and a declined call alters neither the module nor the caller's buffer."
 pub record Demand1 (M : Machine) : Type 0 where
-  pub exact : (σ : M .State) (c : Call) → First (rules M σ c) (M .does σ c .number)
+  -- of every state whose parts are values of their types
+  pub exact : (σ : M .State) → Typed (M .parts σ) → (c : Call) → First (rules M σ c) (M .does σ c .number)
   pub declined : (σ : M .State) (c : Call) → (M .does σ c .number ≡ 0 → ⊥) → (M .does σ c .next ≡ σ) × ((M .does σ c .buffer ≡ lent c) × (M .does σ c .answer ≡ false))
 
 -- "Number 8 is given exactly otherwise, and never for a state reached by calls from reset." Nor does a change fall on a key out of the size
 pub record NeverUnsound (M : Machine) : Type 0 where
-  pub never : (cs : List Call) → all fits cs ≡ true → M .sound (after M cs) ≡ true
+  pub never : (cs : List Call) → all fits cs ≡ true → Said (M .parts (after M cs))
   pub nowhere : (cs : List Call) (s : List ℕ) → M .astray (after M cs) s ≡ false
 
 unfoldable pub bytesOf : ℕ → ℕ → Past → List ℕ

@@ -20,6 +20,7 @@ use Rattle.registers.specs.Registers.{registerAt, _is_}
 use Rattle.registers.specs.Runs.{next}
 use Rattle.sheet.specs.Sheet.{Past, looked, wrote, got}
 use Rattle.sheet.specs.Ledger.{codeGot}
+use Rattle.state.specs.declared.Module.{Module}
 
 -- "There are six calls: reset, look (one set of contact samples), write access, read access, and two questions
 -- (is this key held; is the interrupt line asserted)."
@@ -47,8 +48,8 @@ pub record Machine : Type 1 where
   pub State : Type 0
   -- the state after reset
   pub start : State
-  -- which states are sound
-  pub sound : State → Bool
+  -- what document 01 speaks of in a state: size, keys and runs, queue, mask and marks, as our struct has them
+  pub parts : State → Module
   -- does a look with these samples make a change fall on a key out of the size?
   pub astray : State → List ℕ → Bool
   pub does : State → Call → Gives State

@@ -9,7 +9,6 @@ use mathlib.Core.List.{List, []}
 use lib.ListN.{length}
 use Rattle.state.specs.declared.Module.{Module}
 use Rattle.state.specs.Module.{fresh}
-use Rattle.sound.specs.Sound as soundness
 use Rattle.scan.specs.Scan.{strays}
 use Rattle.calls.specs.declared.Done.{Done}
 use Rattle.calls.specs.declared.Answered.{Answered}
@@ -31,4 +30,4 @@ called m (held row col) = asking (heldCall m row col)
 called m interrupt = asking (lineCall m)
 
 abbrev pub ours : Machine
-ours = record { State = Module; start = fresh; sound = soundness.sound; astray = strays; does = called }
+ours = record { State = Module; start = fresh; parts = λ m. m; astray = strays; does = called }

@@ -1,8 +1,10 @@
--- THE TABLE OF NUMBERS, as propositions in document 01's words. No statement judges a call by the functions that the module judges it by.
+-- THE TABLE OF NUMBERS, as propositions in document 01's words. With the module it shares the ground floor alone, which is anchored to literal tables:
+-- `registerAt`, `allowed`, `next`, `acceptable`, `inSize` and `bit`. For row 9 it asks the machine itself.
 --
 --    Rule, P ⇒ n         a row of the table: n, when P holds
 --    First rules n       "A number is given exactly when its line is true and no line before it in this order is."
 --    place a k           the address of place k of a run that begins at a
+--    Unsound, NotEight, HighBits, NotAllowed, BadSize, NoKey    the conditions of rows 8, 1, 2, 5, 6 and 7
 --    rules M σ c         the rows for a call c that is made in the state σ, in document 01's order
 use Prim.Native.Nat.{ℕ, zero, suc, _<_}
 use mathlib.Core.Path.{_≡_}
@@ -16,6 +18,8 @@ use Rattle.registers.specs.declared.Access.{Access}
 use Rattle.registers.specs.declared.Access.the-variants.{Read, Write}
 use Rattle.registers.specs.Registers.{registerAt, allowed}
 use Rattle.registers.specs.Runs.{next}
+use Rattle.state.specs.declared.Module.{Module}
+use Rattle.sound.specs.Said.{Said}
 use Rattle.demands.specs.Machine.{Call, reset, look, write, read, held, interrupt, Machine}
 
 infix 70 _⇒_
@@ -30,6 +34,10 @@ First ((P ⇒ k) ∷ rules) n = (P × (n ≡ k)) ⊎ ((P → ⊥) × First rules
 unfoldable pub place : ℕ → ℕ → ℕ
 place a zero = a
 place a (suc k) = next (place a k)
+
+-- "module state unsound"
+abbrev pub Unsound : Module → Type 0
+Unsound m = Said m → ⊥
 
 -- "list isn't eight samples"
 abbrev pub NotEight : List ℕ → Type 0
@@ -54,8 +62,8 @@ NoKey row col = (7 < row) ⊎ (12 < col)
 -- "Order: 8; then 1, 2, 9 for a look; 3, 4, 5, 6 for an access; 7 for the held question."
 unfoldable pub rules : (M : Machine) → M .State → Call → List Rule
 rules M σ reset = []
-rules M σ (look s) = (M .sound σ ≡ false) ⇒ 8 ∷ NotEight s ⇒ 1 ∷ HighBits s ⇒ 2 ∷ (M .astray σ s ≡ true) ⇒ 9 ∷ []
-rules M σ (write a bs) = (M .sound σ ≡ false) ⇒ 8 ∷ (length bs ≡ 0) ⇒ 3 ∷ (32 < length bs) ⇒ 4 ∷ NotAllowed Write a (length bs) ⇒ 5 ∷ BadSize a bs ⇒ 6 ∷ []
-rules M σ (read a out) = (M .sound σ ≡ false) ⇒ 8 ∷ (length out ≡ 0) ⇒ 3 ∷ (32 < length out) ⇒ 4 ∷ NotAllowed Read a (length out) ⇒ 5 ∷ []
-rules M σ (held row col) = (M .sound σ ≡ false) ⇒ 8 ∷ NoKey row col ⇒ 7 ∷ []
-rules M σ interrupt = (M .sound σ ≡ false) ⇒ 8 ∷ []
+rules M σ (look s) = Unsound (M .parts σ) ⇒ 8 ∷ NotEight s ⇒ 1 ∷ HighBits s ⇒ 2 ∷ (M .astray σ s ≡ true) ⇒ 9 ∷ []
+rules M σ (write a bs) = Unsound (M .parts σ) ⇒ 8 ∷ (length bs ≡ 0) ⇒ 3 ∷ (32 < length bs) ⇒ 4 ∷ NotAllowed Write a (length bs) ⇒ 5 ∷ BadSize a bs ⇒ 6 ∷ []
+rules M σ (read a out) = Unsound (M .parts σ) ⇒ 8 ∷ (length out ≡ 0) ⇒ 3 ∷ (32 < length out) ⇒ 4 ∷ NotAllowed Read a (length out) ⇒ 5 ∷ []
+rules M σ (held row col) = Unsound (M .parts σ) ⇒ 8 ∷ NoKey row col ⇒ 7 ∷ []
+rules M σ interrupt = Unsound (M .parts σ) ⇒ 8 ∷ []

@@ -1,41 +1,46 @@
--- WRONG MACHINES: ours, with one thing wrong in each, as document 01 lists them. None meets the demands: proofs/Refuted.antt.
+-- WRONG MACHINES: ours, with one thing wrong in each, as document 01 lists them, and some more. None meets the demands: proofs/Refuted.antt.
 --
---    Effects, usual, built e    what the looks, writes and reads that are done do; ours; the machine that does so
+--    Effects, usual, built e    what the looks, writes, reads and line questions that are done do; ours; the machine that does so
+--    Marked, flagged e then     our module with a flag beside it; the machine whose effects go by the flag, and what each call makes of the flag
 --    declining      declines every call
 --    blank          EVTCODE is always 7F, and the code is taken out
 --    stuck          EVTCODE is always 7F, and the code stays
 --    asleep         a look does nothing
---    once           a look does nothing once a code waits: the first change is handled, later ones are ignored
+--    firstLook      the first look is handled, and all later ones are ignored
 --    inventive      a made-up code waits
 --    remembering    a bounce run is counted across a restart
 --    unchanged      a dropped change leaves the key as it was
---    emptying       KBDIC clears REVTINT, with the codes that wait
+--    lowering       KBDIC clears REVTINT while codes wait, and the codes stay
 --    passing        a long read steps past EVTCODE
 --    hasty          codes are taken out for a declined access
 --    forgetful      the oldest code falls out of a full queue
+--    once           a look does nothing once a code waits, until it is fetched
+--    emptying       KBDIC clears REVTINT by emptying the queue
+--    trusting       every state counts as sound
 --    stingy         a single byte of EVTCODE is always 7F, though a longer read gives the codes
 --    silent         a change is dropped, and RELINT is not set
 use Prim.Native.Nat.{ℕ, zero, suc, _+_}
-use mathlib.Core.Bool.{Bool, true, false, _&&_}
+use mathlib.Core.Bool.{Bool, true, false, not, _&&_, _||_}
 use mathlib.Core.List.{List, [], _∷_}
 use lib.ListN.{length, getD, replicate}
 use lib.Dec.{eqb, ltb}
 use Rattle.words.specs.Words.{_if_, _else_, table}
+use Rattle.keys.specs.Keys.{keyAt}
 use Rattle.registers.specs.Registers.{registerAt}
 use Rattle.state.specs.declared.Module.{Module}
 use Rattle.state.specs.Module.{Queue, queue, queueOf, withKeys, withQueue, withRelint, fresh}
 use Rattle.state.specs.Queue.{waits, put, taken}
-use Rattle.sound.specs.Sound as soundness
+use Rattle.flags.specs.Flags.{line}
 use Rattle.scan.specs.Scan.{contactAt, changesBelow, changes, strays, looked}
 use Rattle.access.specs.Bytes.{byteOf, readOut}
 use Rattle.access.specs.Accesses.{wrote, readAll, bytesRead}
-use Rattle.calls.specs.Calls.{lookNumber, writeNumber, readNumber, outcome, resetCall, heldCall, lineCall}
+use Rattle.calls.specs.Calls.{lookNumber, writeNumber, readNumber, heldNumber, lineNumber, outcome, answer, resetCall, heldCall}
 use Rattle.demands.specs.Machine.{Call, reset, look, write, read, held, interrupt, Gives, Machine, lent}
 use Rattle.demands.specs.Ours.{changing, asking, called}
 
 -- ours, but that the calls do this
 abbrev pub doing : (Module → Call → Gives Module) → Machine
-doing does = record { State = Module; start = fresh; sound = soundness.sound; astray = strays; does = does }
+doing does = record { State = Module; start = fresh; parts = λ m. m; astray = strays; does = does }
 
 -- what the calls do that are done
 pub record Effects : Type 0 where
@@ -43,10 +48,11 @@ pub record Effects : Type 0 where
   pub write : Module → ℕ → List ℕ → Module
   pub read : Module → ℕ → ℕ → Module
   pub bytes : Module → ℕ → ℕ → List ℕ
+  pub line : Module → Bool
 
 -- what ours do
 abbrev pub usual : Effects
-usual = record { look = looked; write = wrote; read = readAll; bytes = bytesRead }
+usual = record { look = looked; write = wrote; read = readAll; bytes = bytesRead; line = line }
 
 unfoldable pub calledBy : Effects → Module → Call → Gives Module
 calledBy e m reset = changing resetCall []
@@ -56,20 +62,38 @@ calledBy e m (read a out) =
     let n = readNumber m a (length out) in
     changing (outcome m (e .read m a (length out)) n) (e .bytes m a (length out) if eqb n 0 else out)
 calledBy e m (held row col) = asking (heldCall m row col)
-calledBy e m interrupt = asking (lineCall m)
+calledBy e m interrupt = asking (answer m (e .line m) (lineNumber m))
 
 abbrev pub built : Effects → Machine
 built e = doing (calledBy e)
 
 -- one effect for the usual one
 abbrev pub looking : (Module → List ℕ → Module) → Machine
-looking f = built (record { look = f; write = wrote; read = readAll; bytes = bytesRead })
+looking f = built (record { look = f; write = wrote; read = readAll; bytes = bytesRead; line = line })
 
 abbrev pub writing : (Module → ℕ → List ℕ → Module) → Machine
-writing f = built (record { look = looked; write = f; read = readAll; bytes = bytesRead })
+writing f = built (record { look = looked; write = f; read = readAll; bytes = bytesRead; line = line })
 
 abbrev pub reading : (Module → ℕ → ℕ → Module) → (Module → ℕ → ℕ → List ℕ) → Machine
-reading f g = built (record { look = looked; write = wrote; read = f; bytes = g })
+reading f g = built (record { look = looked; write = wrote; read = f; bytes = g; line = line })
+
+-- our module with a flag beside it, which is clear after reset
+pub record Marked : Type 0 where
+  pub base : Module
+  pub flag : Bool
+
+unfoldable pub carried : Gives Module → Bool → Gives Marked
+carried g flag = record { number = g .number; next = record { base = g .next; flag = flag }; buffer = g .buffer; answer = g .answer }
+
+abbrev pub flagged : (Bool → Effects) → (Marked → Call → Bool) → Machine
+flagged e then =
+    record {
+      State = Marked;
+      start = record { base = fresh; flag = false };
+      parts = λ σ. σ .base;
+      astray = λ σ. strays (σ .base);
+      does = λ σ c. carried (calledBy (e (σ .flag)) (σ .base) c) (then σ c);
+    }
 
 -- ---- "a module that declines every call"
 unfoldable pub declined : Module → Call → Gives Module
@@ -99,11 +123,20 @@ abbrev pub asleep : Machine
 asleep = looking nothing
 
 -- ---- "one that handles the first look and ignores later ones"
-unfoldable pub onlyFirst : Module → List ℕ → Module
-onlyFirst m s = m if waits (m .count) else looked m s
+-- the flag: a look was done
+unfoldable pub ignoring : Bool → Effects
+ignoring flag = record { look = λ m s. m if flag else looked m s; write = wrote; read = readAll; bytes = bytesRead; line = line }
 
-abbrev pub once : Machine
-once = looking onlyFirst
+unfoldable pub handled : Marked → Call → Bool
+handled σ reset = false
+handled σ (look s) = σ .flag || eqb (lookNumber (σ .base) s) 0
+handled σ (write a bs) = σ .flag
+handled σ (read a out) = σ .flag
+handled σ (held row col) = σ .flag
+handled σ interrupt = σ .flag
+
+abbrev pub firstLook : Machine
+firstLook = flagged ignoring handled
 
 -- ---- "one with a made-up number waiting"
 unfoldable pub madeUp : Module → List ℕ → Module
@@ -133,11 +166,32 @@ abbrev pub unchanged : Machine
 unchanged = looking keysKept
 
 -- ---- "Clearing REVTINT on a KBDIC write while codes wait."
-unfoldable pub emptied : Module → ℕ → List ℕ → Module
-emptied m a bs = withQueue (wrote m a bs) (queue (replicate 15 0x7F) 0 (wrote m a bs .relint)) if eqb a 0x08 else wrote m a bs
+-- no code waits in it
+unfoldable pub quiet : Module → Module
+quiet m = withQueue m (queue (replicate 15 0x7F) 0 (m .relint))
 
-abbrev pub emptying : Machine
-emptying = writing emptied
+-- the flag: REVTINT was cleared, so KBDRIS, KBDMIS and the line are as if no code waited
+unfoldable pub hushing : Bool → Effects
+hushing flag =
+    record {
+      look = looked;
+      write = wrote;
+      read = readAll;
+      bytes = λ m a n. bytesRead (quiet m) a n if flag && (eqb a 0x06 || eqb a 0x07) else bytesRead m a n;
+      line = λ m. line (quiet m) if flag else line m;
+    }
+
+-- a KBDIC write that is done clears it, and the next look that is done sets it again
+unfoldable pub hushed : Marked → Call → Bool
+hushed σ reset = false
+hushed σ (look s) = σ .flag && not (eqb (lookNumber (σ .base) s) 0)
+hushed σ (write a bs) = σ .flag || (eqb a 0x08 && eqb (writeNumber (σ .base) a bs) 0)
+hushed σ (read a out) = σ .flag
+hushed σ (held row col) = σ .flag
+hushed σ interrupt = σ .flag
+
+abbrev pub lowering : Machine
+lowering = flagged hushing hushed
 
 -- ---- "Stepping past EVTCODE in a long read"
 unfoldable pub pastState : Module → ℕ → ℕ → Module
@@ -181,6 +235,33 @@ abbrev pub forgetful : Machine
 forgetful = looking oldestLost
 
 -- ---- beyond document 01's list
+unfoldable pub onlyFirst : Module → List ℕ → Module
+onlyFirst m s = m if waits (m .count) else looked m s
+
+abbrev pub once : Machine
+once = looking onlyFirst
+
+-- the data sheet's KBDIC, which empties the queue
+unfoldable pub emptied : Module → ℕ → List ℕ → Module
+emptied m a bs = quiet (wrote m a bs) if eqb a 0x08 else wrote m a bs
+
+abbrev pub emptying : Machine
+emptying = writing emptied
+
+-- the number is told from the call alone, as it is given after reset, when the state is sound
+unfoldable pub trusted : Module → Call → Gives Module
+trusted m reset = changing resetCall []
+trusted m (look s) = changing (outcome m (looked m s) (lookNumber fresh s)) []
+trusted m (write a bs) = changing (outcome m (wrote m a bs) (writeNumber fresh a bs)) []
+trusted m (read a out) =
+    let n = readNumber fresh a (length out) in
+    changing (outcome m (readAll m a (length out)) n) (bytesRead m a (length out) if eqb n 0 else out)
+trusted m (held row col) = asking (answer m (getD (m .held) (keyAt row col) false) (heldNumber fresh row col))
+trusted m interrupt = asking (answer m (line m) (lineNumber fresh))
+
+abbrev pub trusting : Machine
+trusting = doing trusted
+
 unfoldable pub single : ℕ → ℕ → Bool
 single a n = eqb a 0x10 && eqb n 1
 

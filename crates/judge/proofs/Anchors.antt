@@ -2,8 +2,9 @@
 -- Assumes nothing.
 use Prim.Native.Nat.{ℕ}
 use mathlib.Core.Path.{_≡_, refl}
-use mathlib.Core.Bool.{not, true, _&&_}
+use mathlib.Core.Bool.{not, true}
 use mathlib.Core.List.{List, [], _∷_}
+use lib.ListN.{length}
 use Rattle.words.specs.Words.{all, bit}
 use Rattle.judge.specs.Lines.{high}
 
@@ -14,6 +15,6 @@ narrow = 0x0000 ∷ 0x0001 ∷ 0x0800 ∷ 0x0FFF ∷ 0x1000 ∷ 0x1001 ∷ 0x1FF
 wide : List ℕ
 wide = 0x2000 ∷ 0x2001 ∷ 0x3FFF ∷ 0x4000 ∷ 0x5000 ∷ 0x6000 ∷ 0x7FFF ∷ 0x8000 ∷ 0x9FFF ∷ 0xA000 ∷ 0xC000 ∷ 0xE000 ∷ 0xFFFF ∷ []
 
-high-right : (all (λ x. not (high x)) narrow && all high wide) ≡ true
+high-right : (length narrow ≡ 7) × (length wide ≡ 13) × (all (λ x. not (high x)) narrow ≡ true) × (all high wide ≡ true)
 unfolding all narrow wide high bit
-high-right = refl
+high-right = (refl, refl, refl, refl)

@@ -1,17 +1,18 @@
 -- Keys against document 01, written out and computed.
 --
---    sizes      the 77 acceptable sizes
---    codes      the 104 press codes by row, then column
---    in22, in2C, in8C    the keys in those sizes, by their press codes
+--    sizes           the 77 acceptable sizes
+--    codes           the 104 press codes by row, then column
+--    rowsIn, colsIn  the rows and columns in a size, by its first and its second digit
+--    closes          the sample that closes a column's contact alone
 -- Assumes nothing.
-use Prim.Native.Nat.{ℕ, _+_}
-use mathlib.Core.Path.{_≡_, refl}
-use mathlib.Core.Bool.{Bool, true, false, _&&_, Bool·beq}
+use Prim.Native.Nat.{ℕ, _+_, _*_, _-_}
+use mathlib.Core.Path.{_≡_, refl, ap}
+use mathlib.Core.Bool.{Bool, true, false, not, _&&_, Bool·beq}
 use mathlib.Core.List.{List, [], _∷_}
 use lib.ListN.{length, getD}
 use lib.Dec.{eqb}
-use Rattle.words.specs.Words.{allBelow, among}
-use Rattle.keys.specs.Keys.{isKey, keyAt, rowOf, colOf, pressCode, releaseCode, code, isCode, keyOf, acceptable, inSize, keyIn}
+use Rattle.words.specs.Words.{_if_, _else_, allBelow, among, bit, table}
+use Rattle.keys.specs.Keys.{isKey, keyAt, rowOf, colOf, pressCode, releaseCode, code, isCode, keyOf, acceptable, inSize, keyIn, sample}
 
 sizes : List ℕ
 sizes =
@@ -56,20 +57,68 @@ codes-right : (length codes ≡ 104) × (allBelow codeRight 104 ≡ true) × (al
 unfolding codes codeRight isRight allBelow among code pressCode releaseCode rowOf colOf isKey isCode keyOf keyAt
 codes-right = (refl, refl, refl)
 
-in22 : List ℕ
-in22 = 0x00 ∷ 0x01 ∷ 0x0C ∷ 0x10 ∷ 0x11 ∷ 0x1C ∷ []
-
-in2C : List ℕ
-in2C =
-    0x00 ∷ 0x01 ∷ 0x02 ∷ 0x03 ∷ 0x04 ∷ 0x05 ∷ 0x06 ∷ 0x07 ∷ 0x08 ∷ 0x09 ∷ 0x0A ∷ 0x0B ∷ 0x0C
-    ∷ 0x10 ∷ 0x11 ∷ 0x12 ∷ 0x13 ∷ 0x14 ∷ 0x15 ∷ 0x16 ∷ 0x17 ∷ 0x18 ∷ 0x19 ∷ 0x1A ∷ 0x1B ∷ 0x1C
+-- ---- "Keys in the size are those of rows below R whose column is below C or is 12."
+-- the rows in the sizes 2x, 3x, .. 8x
+rowsIn : List (List ℕ)
+rowsIn =
+    (0 ∷ 1 ∷ [])
+    ∷ (0 ∷ 1 ∷ 2 ∷ [])
+    ∷ (0 ∷ 1 ∷ 2 ∷ 3 ∷ [])
+    ∷ (0 ∷ 1 ∷ 2 ∷ 3 ∷ 4 ∷ [])
+    ∷ (0 ∷ 1 ∷ 2 ∷ 3 ∷ 4 ∷ 5 ∷ [])
+    ∷ (0 ∷ 1 ∷ 2 ∷ 3 ∷ 4 ∷ 5 ∷ 6 ∷ [])
+    ∷ (0 ∷ 1 ∷ 2 ∷ 3 ∷ 4 ∷ 5 ∷ 6 ∷ 7 ∷ [])
     ∷ []
 
-sizeRight : ℕ → List ℕ → ℕ → Bool
-sizeRight size l k = Bool·beq (keyIn size k) (among (getD codes k 0) l)
+-- the columns in the sizes x2, x3, .. xC; the special-function key, column 12, is in each
+colsIn : List (List ℕ)
+colsIn =
+    (0 ∷ 1 ∷ 12 ∷ [])
+    ∷ (0 ∷ 1 ∷ 2 ∷ 12 ∷ [])
+    ∷ (0 ∷ 1 ∷ 2 ∷ 3 ∷ 12 ∷ [])
+    ∷ (0 ∷ 1 ∷ 2 ∷ 3 ∷ 4 ∷ 12 ∷ [])
+    ∷ (0 ∷ 1 ∷ 2 ∷ 3 ∷ 4 ∷ 5 ∷ 12 ∷ [])
+    ∷ (0 ∷ 1 ∷ 2 ∷ 3 ∷ 4 ∷ 5 ∷ 6 ∷ 12 ∷ [])
+    ∷ (0 ∷ 1 ∷ 2 ∷ 3 ∷ 4 ∷ 5 ∷ 6 ∷ 7 ∷ 12 ∷ [])
+    ∷ (0 ∷ 1 ∷ 2 ∷ 3 ∷ 4 ∷ 5 ∷ 6 ∷ 7 ∷ 8 ∷ 12 ∷ [])
+    ∷ (0 ∷ 1 ∷ 2 ∷ 3 ∷ 4 ∷ 5 ∷ 6 ∷ 7 ∷ 8 ∷ 9 ∷ 12 ∷ [])
+    ∷ (0 ∷ 1 ∷ 2 ∷ 3 ∷ 4 ∷ 5 ∷ 6 ∷ 7 ∷ 8 ∷ 9 ∷ 10 ∷ 12 ∷ [])
+    ∷ (0 ∷ 1 ∷ 2 ∷ 3 ∷ 4 ∷ 5 ∷ 6 ∷ 7 ∷ 8 ∷ 9 ∷ 10 ∷ 11 ∷ 12 ∷ [])
+    ∷ []
 
--- the keys in size 22, in 2C and in 8C; 104 and above are no keys
-keys-right :
-    (allBelow (sizeRight 0x22 in22) 104 ≡ true) × (allBelow (sizeRight 0x2C in2C) 104 ≡ true) × (allBelow (sizeRight 0x8C codes) 104 ≡ true) × (keyIn 0x8C 104 ≡ false)
-unfolding codes in22 in2C sizeRight allBelow among keyIn inSize rowOf colOf
-keys-right = (refl, refl, refl, refl)
+-- the size of the list's place 11 × i + j, a key by row and column and by its number
+inRight : ℕ → ℕ → ℕ → ℕ → Bool
+inRight i j row col =
+    let size = getD sizes (11 * i + j) 0 in
+    let inside = among row (getD rowsIn i []) && among col (getD colsIn j []) in
+    Bool·beq (inSize size row col) inside && Bool·beq (keyIn size (13 * row + col)) inside
+
+-- all 77 sizes and all 104 keys; 104 and above are no keys
+keys-right : (allBelow (λ i. allBelow (λ j. allBelow (λ row. allBelow (inRight i j row) 13) 8) 11) 7 ≡ true) × (keyIn 0x8C 104 ≡ false)
+unfolding sizes rowsIn colsIn inRight allBelow among keyIn inSize rowOf colOf
+keys-right = (refl, refl)
+
+-- ---- "Bit c is 1 when column c is closed, bit 12 is the SF key." "All 13 contacts are read independently."
+closes : List ℕ
+closes = 0x0001 ∷ 0x0002 ∷ 0x0004 ∷ 0x0008 ∷ 0x0010 ∷ 0x0020 ∷ 0x0040 ∷ 0x0080 ∷ 0x0100 ∷ 0x0200 ∷ 0x0400 ∷ 0x0800 ∷ 0x1000 ∷ []
+
+-- a look in which row r has the sample x, and each other row the sample y
+rowOnly : ℕ → ℕ → ℕ → List ℕ
+rowOnly r x y = table (λ i. x if eqb i r else y) 8
+
+-- the contact in row r and column c closed alone closes key k alone; open alone, it leaves that key alone open
+sampleRight : ℕ → ℕ → ℕ → Bool
+sampleRight r c k =
+    let x = getD closes c 0 in
+    let own = eqb (getD codes k 0) (16 * r + c) in
+    Bool·beq (sample (rowOnly r x 0) 0x8C k) own && Bool·beq (sample (rowOnly r (0x1FFF - x) 0x1FFF) 0x8C k) (not own)
+
+-- all 104 contacts and all 104 keys
+samples-right : allBelow (λ r. allBelow (λ c. allBelow (sampleRight r c) 104) 13) 8 ≡ true
+unfolding codes closes rowOnly sampleRight table allBelow sample keyIn inSize rowOf colOf bit
+samples-right = refl
+
+-- no other contact matters, in any look
+pub sample-own : (s t : List ℕ) (size k : ℕ) → bit (colOf k) (getD s (rowOf k) 0) ≡ bit (colOf k) (getD t (rowOf k) 0) → sample s size k ≡ sample t size k
+unfolding sample
+sample-own s t size k e = ap (λ (b : Bool). b if keyIn size k else false) e

@@ -9,7 +9,7 @@
 --    key-back, back-row, back-col    the key number, and back
 --    press-is, release-is         the codes of a key
 --    code-key                     the key of a change's code is the key that changed
---    code-low                     a press is at most 0x7F
+--    code-low                     a press is at most 0x7F; code-byte: every code is a byte
 --    sample-out                   out of the size a sample counts as open
 --    rows-most                    an acceptable size has at most 8 rows
 --    code-in                      by its row and column, or by the number of its key, a code is of a key in the size
@@ -18,7 +18,7 @@ use Prim.Native.Nat.{ℕ, _+_, _*_, _/_, _%_, _≤_, _<_}
 use native.Mathlib.Decide.{decLe}
 use native.Mathlib.Omega.{arith}
 use mathlib.Core.Path.{_≡_, refl, sym, _∙_}
-use mathlib.Core.Bool.{Bool, true, false, _&&_, and-false}
+use mathlib.Core.Bool.{Bool, true, false, cond, _&&_, and-false}
 use mathlib.Core.List.{List}
 use borrow.Author.Tests.{le-leb, lt-leb, lt-ltb, le-ltb, leb-true, ne-eqb}
 use lib.Dec.{leb, ltb}
@@ -154,6 +154,15 @@ code-key k false h =
 pub code-low : (k : ℕ) → code k true ≤ 0x7F
 unfolding code
 code-low k = press-low (rowOf k) (colOf k)
+
+pub code-byte : (k : ℕ) (closed : Bool) → code k closed < 256
+unfolding code releaseCode
+code-byte k true = let p = press-low (rowOf k) (colOf k) in omega arith
+code-byte k false = go (isKey (rowOf k) (colOf k)) refl
+  where
+    go : (b : Bool) → isKey (rowOf k) (colOf k) ≡ b → cond b (16 * rowOf k + colOf k + 128) 0x7F < 256
+    go true e = let r = key-row (rowOf k) (colOf k) e in let c = key-col (rowOf k) (colOf k) e in omega arith
+    go false e = omega arith
 
 pub sample-out : (s : List ℕ) (size k : ℕ) → keyIn size k ≡ false → sample s size k ≡ false
 unfolding sample

@@ -3,7 +3,8 @@
 --    code-is           the code of a key's change is a code
 --    changes-all       what is true of the code of every key's change is true of a look's changes
 --    waiting-most      "at most 15 codes wait"
---    waiting-codes     every code that waits is one; code-real: so it is not 0x7F
+--    waiting-all       what is true of the codes of every key is true of the codes that wait
+--    waiting-codes     every code that waits is one; code-real: so it is not 0x7F; waiting-bytes: and is a byte
 --    progress          a byte of EVTCODE is 0x7F only when nothing waits
 --    never-all         "the four picture registers aren't all marked read"
 --    mask-low          "KBDMSK is at most 0x0F"
@@ -23,7 +24,7 @@ use lib.ListN.{length, drop, length-drop}
 use Rattle.words.specs.Words.{all, among, some, bit, without}
 use Rattle.words.proofs.Laws.{true-false, all-first}
 use Rattle.keys.specs.Keys.{isKey, keyAt, code, isCode, keyOf, sample}
-use Rattle.keys.proofs.Laws.{code-key}
+use Rattle.keys.proofs.Laws.{code-key, code-byte}
 use Rattle.contact.specs.Contact.{heldAfter}
 use Rattle.registers.specs.declared.Register.{Register}
 use Rattle.registers.specs.declared.Register.the-variants.{KBDBOUNCE, KBDSIZE, KBDRIS, KBDMIS, KBDIC, KBDMSK, KBDCODE, EVTCODE, RSTINTCLR, Unknown}
@@ -64,17 +65,24 @@ waiting-most (got r ∷ past) =
     let most = waiting-most past in
     by-test (λ t. length (cond t (drop 1 (waiting past)) (waiting past)) ≤ 15) (r is EVTCODE) (λ e. rw (length-drop 1 (waiting past)) (omega arith)) (λ e. most)
 
+module _ (f : ℕ → Bool) (h : (k : ℕ) (closed : Bool) → k < 104 → f (code k closed) ≡ true) where
+  pub waiting-all : (past : Past) → all f (waiting past) ≡ true
+  unfolding waiting
+  waiting-all [] = all-none f
+  waiting-all (looked s ∷ past) =
+      all-take f 15 (waiting past ++ changes s past)
+      (all-append f (waiting past) (changes s past) (waiting-all past) (changes-all s past f (λ k l e. h k (sample s (size past) k) l)))
+  waiting-all (wrote r b ∷ past) = by-test (λ t. all f (cond t [] (waiting past)) ≡ true) (r is KBDSIZE) (λ e. all-none f) (λ e. waiting-all past)
+  waiting-all (got r ∷ past) =
+      let old = waiting-all past in
+      by-test (λ t. all f (cond t (drop 1 (waiting past)) (waiting past)) ≡ true) (r is EVTCODE) (λ e. all-drop f (waiting past) old) (λ e. old)
+
 -- "each a press or release code"
 pub waiting-codes : (past : Past) → all isCode (waiting past) ≡ true
-unfolding waiting
-waiting-codes [] = all-none isCode
-waiting-codes (looked s ∷ past) =
-    all-take isCode 15 (waiting past ++ changes s past)
-    (all-append isCode (waiting past) (changes s past) (waiting-codes past) (changes-all s past isCode (λ k l e. code-is k (sample s (size past) k) l)))
-waiting-codes (wrote r b ∷ past) = by-test (λ t. all isCode (cond t [] (waiting past)) ≡ true) (r is KBDSIZE) (λ e. all-none isCode) (λ e. waiting-codes past)
-waiting-codes (got r ∷ past) =
-    let old = waiting-codes past in
-    by-test (λ t. all isCode (cond t (drop 1 (waiting past)) (waiting past)) ≡ true) (r is EVTCODE) (λ e. all-drop isCode (waiting past) old) (λ e. old)
+waiting-codes = waiting-all isCode code-is
+
+pub waiting-bytes : (past : Past) → all (λ c. ltb c 256) (waiting past) ≡ true
+waiting-bytes = waiting-all (λ c. ltb c 256) (λ k closed l. lt-ltb (code k closed) 256 (code-byte k closed))
 
 -- "0x7F means no key"
 pub code-real : (c : ℕ) → isCode c ≡ true → c ≡ 0x7F → ⊥

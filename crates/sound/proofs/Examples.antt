@@ -109,8 +109,8 @@ examples =
 right : Entry → Bool
 right e = Bool·beq (is.sound (e .state)) (e .expected)
 
-examples-right : all right examples ≡ true
+examples-right : (length examples ≡ 40) × (all right examples ≡ true)
 unfolding examples right _is_ sound unsound sized holding running counting waits behind
     is.sound is.keySound is.keysSound is.codesSound is.restUnused
     every all allBelow acceptable isKey keyAt rowOf colOf keyOf inSize keyIn fresh restarted forgotten waiting allRead
-examples-right = refl
+examples-right = (refl, refl)

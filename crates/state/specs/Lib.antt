@@ -1,2 +1,3 @@
 pub mod Module
 pub mod Queue
+pub mod Typed

@@ -3,16 +3,18 @@
 --    by-test                          what holds where a test is true, and where it is false, holds
 --    some-append                      a list after another has an item where either has
 --    all-none, all-one                a test of no item, and of one
---    all-append, all-take, all-drop   a test of a list's parts
+--    all-append, all-take, all-drop   a test of a list's parts; all-replicate: of one item many times
+--    all-at, all-of                   a test of a list, place by place; all-anywhere: also past its end
+--    by-places                        lists are the same that are place by place
 --    take-most                        at most n are taken
 --    take-room                        the first n of two lists: the one, and as much of the other as there is room for
 -- Assumes nothing.
-use Prim.Native.Nat.{ℕ, zero, suc, _+_, _-_, _≤_}
+use Prim.Native.Nat.{ℕ, zero, suc, _+_, _-_, _<_, _≤_}
 use native.Mathlib.Omega.{arith}
 use mathlib.Core.Path.{_≡_, refl, ap, _∙_}
 use mathlib.Core.Bool.{Bool, true, false, _||_}
 use mathlib.Core.List.{List, [], _∷_, _++_}
-use lib.ListN.{length, take, drop, length-take}
+use lib.ListN.{length, getD, take, drop, replicate, length-take}
 use lib.Seq.{take-append-add}
 use Rattle.words.specs.Words.{all, some}
 use Rattle.words.proofs.Laws.{all-first, all-rest, all-cons}
@@ -46,6 +48,30 @@ module _ {A : Type 0} (f : A → Bool) where
   pub all-drop : (l : List A) → all f l ≡ true → all f (drop 1 l) ≡ true
   all-drop [] h = h
   all-drop (x ∷ l) h = all-rest f x l h
+
+  pub all-replicate : (n : ℕ) (x : A) → f x ≡ true → all f (replicate n x) ≡ true
+  all-replicate zero x e = all-none
+  all-replicate (suc n) x e = all-cons f x (replicate n x) e (all-replicate n x e)
+
+  pub all-at : (d : A) (l : List A) → all f l ≡ true → (k : ℕ) → k < length l → f (getD l k d) ≡ true
+  all-at d [] e k h = absurd (omega arith)
+  all-at d (x ∷ l) e zero h = all-first f x l e
+  all-at d (x ∷ l) e (suc k) h = all-at d l (all-rest f x l e) k (omega arith)
+
+  pub all-anywhere : (d : A) → f d ≡ true → (l : List A) → all f l ≡ true → (k : ℕ) → f (getD l k d) ≡ true
+  all-anywhere d e [] h k = e
+  all-anywhere d e (x ∷ l) h zero = all-first f x l h
+  all-anywhere d e (x ∷ l) h (suc k) = all-anywhere d e l (all-rest f x l h) k
+
+  pub all-of : (d : A) (l : List A) → ((k : ℕ) → k < length l → f (getD l k d) ≡ true) → all f l ≡ true
+  all-of d [] h = all-none
+  all-of d (x ∷ l) h = all-cons f x l (h 0 (omega arith)) (all-of d l (λ k g. h (suc k) (omega arith)))
+
+pub by-places : {A : Type 0} (d : A) (a b : List A) → length a ≡ length b → ((k : ℕ) → k < length a → getD a k d ≡ getD b k d) → a ≡ b
+by-places d [] [] n e = refl
+by-places d [] (y ∷ b) n e = absurd (omega arith)
+by-places d (x ∷ a) [] n e = absurd (omega arith)
+by-places d (x ∷ a) (y ∷ b) n e = λ i. e 0 (omega arith) i ∷ by-places d a b (omega arith) (λ k l. e (suc k) (omega arith)) i
 
 pub take-most : {A : Type 0} (n : ℕ) (l : List A) → length (take n l) ≤ n
 take-most n l = rw (length-take n l) (omega arith)

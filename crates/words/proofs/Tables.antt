@@ -3,6 +3,7 @@
 --    table-length, table-at        a table's length and items
 --    table-same                    tables of functions that are alike below n are the same
 --    table-front                   a table of one value, from the front
+--    by-table                      a list that has a table's items is the table
 --    replaced f k l                the list l, its first k items replaced by those of the table of f
 --    replaced-none, replaced-all   none replaced, and all
 --    replaced-at                   the next item is still the list's own
@@ -17,6 +18,7 @@ use mathlib.Core.List.{List, [], _∷_, _++_, append-nil}
 use lib.ListN.{length, getD, set, drop, length-append, List·getD-append, drop-of-length-le}
 use lib.Seq.{drop-cons, append-snoc, set-at, getD-at}
 use Rattle.words.specs.Words.{table}
+use Rattle.words.proofs.Lists.{by-places}
 
 module _ {A : Type 0} (f : ℕ → A) where
   pub table-length : (n : ℕ) → length (table f n) ≡ n
@@ -37,6 +39,11 @@ module _ {A : Type 0} (f : ℕ → A) where
   unfolding table
   table-same g zero h = refl
   table-same g (suc n) h = rw (table-same g n (λ k l. h k (omega arith)), h n (omega arith))
+
+pub by-table : {A : Type 0} (d : A) (f : ℕ → A) (n : ℕ) (l : List A) → length l ≡ n → ((k : ℕ) → k < n → f k ≡ getD l k d) → table f n ≡ l
+by-table d f n l e same =
+    let t = table-length f n in
+    by-places d (table f n) l (t ∙ sym e) (λ i h. table-at f n i d (omega arith) ∙ same i (omega arith))
 
 pub table-front : {A : Type 0} (c : A) (n : ℕ) → table (λ _. c) (suc n) ≡ c ∷ table (λ _. c) n
 unfolding table

@@ -1,0 +1,9 @@
+pub mod Samples
+pub mod Steps
+pub mod Codes
+pub mod Flags
+pub mod Runs
+pub mod Only
+pub mod Calls
+pub mod Exactly
+pub mod Everywhere

@@ -1,0 +1,1 @@
+// Every sound state is reached. There is no code here.
