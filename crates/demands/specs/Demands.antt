@@ -1,4 +1,4 @@
--- THE CUSTOMER'S DEMANDS, as predicates over machines. They speak of what a caller can see.
+-- THE CUSTOMER'S DEMANDS, as predicates over machines. They speak of what a caller can see; only soundness, row 8 of the table, looks into a state.
 --
 --    Demand1, Demand2, Demand3    the three demands
 --    NeverUnsound                 "never for a state reached by calls from reset"
