@@ -1,4 +1,5 @@
-# What bench/run and bench/where share: the toolchain as rt finds it, the archive, and how C is compiled, linked and run. Sourced in the repository's folder.
+# What bench/run and bench/where share: the archive, and how C is compiled, linked and run by the toolchain. Sourced in the repository's folder.
+. .ci/toolchain || exit 1
 
 failed() {
     [ ! -s "$work/log" ] || tail -n 30 "$work/log"
@@ -6,19 +7,7 @@ failed() {
     exit 1
 }
 
-# Programs are for x86-64: elsewhere the toolchain has an emulator.
-find_tools() {
-    command -v rt >/dev/null || failed "no rt: install the Rattle toolchain and put its bin folder on PATH"
-    script=$(readlink -f "$(command -v rt)")
-    home=${RATTLE_HOME:-$(dirname "$(dirname "$script")")}
-    own=$home/on/$(uname -m)
-    tools=$own/toolchain
-    target=x86_64-unknown-linux-gnu
-    emulator=$tools/bin/qemu-x86_64
-    [ -x "$emulator" ] || emulator=''
-}
-
-# The archive is built where it is missing or older than a source.
+# The archive is built if it is missing or older than a source.
 find_archive() {
     archive=target/staticlib/libpanel.a
     if [ -f "$archive" ]; then
@@ -33,7 +22,7 @@ find_archive() {
 compile() {
     level=$1 file=$2 object=$3
     shift 3
-    "$tools/bin/clang" --target=$target -nostdinc -isystem tests/c/include -I include -std=c99 -Wall -Wextra -Werror -pedantic -fPIE "$level" "$@" -c "bench/$file" -o "$work/$object" >"$work/log" 2>&1 || failed "bench/$file doesn't compile"
+    "$clang" --target="$target" -nostdinc -isystem tests/c/include -I include -std=c99 -Wall -Wextra -Werror -pedantic -fPIE "$level" "$@" -c "bench/$file" -o "$work/$object" >"$work/log" 2>&1 || failed "bench/$file doesn't compile"
 }
 
 # The plain C at both levels, and all that is measured with it.
@@ -54,11 +43,11 @@ join() {
         objects="$objects $work/$name.o"
     done
     # shellcheck disable=SC2086
-    "$own/bin/rattle-link" --target $target --toolchain "$tools" -o "$work/$program" $objects "$archive" >"$work/log" 2>&1 || failed "$program doesn't link"
+    "$joiner" --target "$target" --toolchain "$tools" -o "$work/$program" $objects "$archive" >"$work/log" 2>&1 || failed "$program doesn't link"
     : >"$work/log"
 }
 
 # run PROGRAM WORDS..: under the toolchain's own loader and C library.
 run() {
-    ${emulator:+"$emulator"} "$tools/lib/ld-linux-x86-64.so.2" --library-path "$tools/lib" "$work/$1" "${@:2}"
+    ${emulator:+"$emulator"} "$loader" --library-path "$tools/lib" "$work/$1" "${@:2}"
 }

@@ -4,7 +4,6 @@
 //! leads to it.
 
 use crate::console::Console;
-use crate::planted::Planted;
 use crate::script::Line;
 use std::ffi::OsString;
 use std::io::{self, Write};
@@ -35,41 +34,28 @@ fn comparable(answer: &[u8]) -> &[u8] {
 }
 
 /// The second module's answers, each with the place of the line it answers.
-fn our_answers(script: &[Line]) -> Vec<(usize, Line)> {
-    let mut console = Console::new(None);
-    let answers = script.iter().map(|line| console.answer(line));
+fn our_answers(script: &[Line]) -> impl Iterator<Item = (usize, Line)> + '_ {
+    let mut console = Console::new();
+    let answers = script.iter().map(move |line| console.answer(line));
     let with_places = answers.enumerate();
-    with_places.filter_map(|(place, answer)| Some((place, answer?.into_bytes()))).collect()
+    with_places.filter_map(|(place, answer)| Some((place, answer?.into_bytes())))
 }
 
 /// Where another console's answers to a script first differ from ours.
-pub fn difference(script: &[Line], theirs: &[Line]) -> Option<Difference> {
-    let ours = our_answers(script);
-    for place in 0..ours.len().max(theirs.len()) {
+pub fn difference(script: &[Line], theirs: impl IntoIterator<Item = Line>) -> Option<Difference> {
+    let (mut ours, mut theirs) = (our_answers(script), theirs.into_iter());
+    loop {
+        let (our, their) = match (ours.next(), theirs.next()) {
+            (None, None) => return None,
+            both => both,
+        };
         let end = (script.len().saturating_sub(1), MISSING.to_vec());
-        let (line, our) = ours.get(place).cloned().unwrap_or(end);
-        let their = theirs.get(place).cloned().unwrap_or_else(|| MISSING.to_vec());
+        let (line, our) = our.unwrap_or(end);
+        let their = their.unwrap_or_else(|| MISSING.to_vec());
         if comparable(&our) != comparable(&their) {
             return Some(Difference { line, ours: our, theirs: their });
         }
     }
-    None
-}
-
-/// Where a module with a planted error first answers a script differently.
-pub fn planted_difference(script: &[Line], planted: Planted) -> Option<Difference> {
-    let (mut right, mut wrong) = (Console::new(None), Console::new(Some(planted)));
-    for (line, text) in script.iter().enumerate() {
-        let (ours, theirs) = (right.answer(text), wrong.answer(text));
-        if ours != theirs {
-            return Some(Difference {
-                line,
-                ours: ours.unwrap_or_default().into_bytes(),
-                theirs: theirs.unwrap_or_default().into_bytes(),
-            });
-        }
-    }
-    None
 }
 
 /// Gives a console program the whole script and takes its whole output. An end with another
@@ -180,7 +166,7 @@ fn with_row_masked(line: &[u8], row: usize, mask: u16) -> Option<Line> {
 
 /// Compares a program with the second module on a script. Says whether they are the same.
 pub fn compare(seed: u64, script: &[Line], program: &[OsString]) -> io::Result<bool> {
-    let found = match difference(script, &run_program(program, script)?) {
+    let found = match difference(script, run_program(program, script)?) {
         Some(found) => found,
         None => {
             println!("same: seed {seed}, {} lines", script.len());
@@ -191,14 +177,14 @@ pub fn compare(seed: u64, script: &[Line], program: &[OsString]) -> io::Result<b
     show(script, &found)?;
     let mut differs = |lines: &[Line]| {
         let theirs = run_program(program, lines).ok()?;
-        difference(lines, &theirs).map(|found| found.line)
+        difference(lines, theirs).map(|found| found.line)
     };
     let short = cut_down(script, &mut differs);
     println!("cut down to {} lines:", short.len());
     for line in &short {
         show_line("", line)?;
     }
-    if let Some(found) = difference(&short, &run_program(program, &short)?) {
+    if let Some(found) = difference(&short, run_program(program, &short)?) {
         show(&short, &found)?;
     }
     Ok(false)

@@ -3,15 +3,15 @@
 //! Input is bytes of any kind, in pieces of any length. A line is answered as soon as it is
 //! complete; one line is all that is kept.
 
+use crate::calls::Calls;
 use crate::module::Module;
-use crate::planted::Planted;
 
 /// The longest line that is held, before its newline, a CR included.
 pub const LONGEST: usize = 16_384;
 
 /// A module and the line that is being received.
 pub struct Console {
-    module: Module,
+    module: Box<dyn Calls>,
     line: Vec<u8>,
 }
 
@@ -19,9 +19,14 @@ pub struct Console {
 type Answer = Result<String, &'static str>;
 
 impl Console {
-    /// A console that begins with a module after reset.
-    pub fn new(planted: Option<Planted>) -> Console {
-        Console { module: Module::new(planted), line: Vec::new() }
+    /// A console that begins with the second module after reset.
+    pub fn new() -> Console {
+        Console::over(Box::new(Module::new()))
+    }
+
+    /// A console that begins with this module.
+    pub fn over(module: Box<dyn Calls>) -> Console {
+        Console { module, line: Vec::new() }
     }
 
     /// Takes in a piece of input and adds the answers of all lines it completes.

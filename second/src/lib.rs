@@ -1,9 +1,9 @@
 //! A second key module and what is needed to compare another one with it.
 
+pub mod calls;
 pub mod chance;
 pub mod compare;
 pub mod console;
 pub mod malformed;
 pub mod module;
-pub mod planted;
 pub mod script;

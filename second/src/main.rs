@@ -1,8 +1,6 @@
 //! The second module as a program.
 //!
 //! `second`                                    speaks the console's language
-//! `second --planted NAME`                     the same, with a planted error
-//! `second planted`                            lists the planted errors
 //! `second script SEED LINES`                  prints a random script
 //! `second compare SEED LINES PROGRAM [WORDS]` compares a console program with the second module
 //!
@@ -11,14 +9,12 @@
 
 use second::compare::compare;
 use second::console::Console;
-use second::planted::{Planted, ALL};
 use second::script::script;
 use std::ffi::OsString;
 use std::io::{self, Read, Write};
 use std::process::exit;
 
-const USAGE: &str = "usage: second [--planted NAME]
-       second planted
+const USAGE: &str = "usage: second
        second script SEED LINES
        second compare SEED LINES PROGRAM [WORDS..]";
 
@@ -28,12 +24,7 @@ fn main() {
     let texts: Vec<String> = words.iter().map(|word| word.to_string_lossy().into()).collect();
     let texts: Vec<&str> = texts.iter().map(String::as_str).collect();
     match texts.as_slice() {
-        [] => ignore_broken_pipe(speak(None)),
-        ["--planted", name] => match Planted::named(name) {
-            Some(planted) => ignore_broken_pipe(speak(Some(planted))),
-            None => usage("no planted error has this name"),
-        },
-        ["planted"] => ignore_broken_pipe(list_planted()),
+        [] => ignore_broken_pipe(speak()),
         ["script", seed, lines] => ignore_broken_pipe(print_script(number(seed), number(lines))),
         ["compare", seed, lines, _, ..] => run_compare(number(seed), number(lines), &words[3..]),
         _ => usage("these words make no sense"),
@@ -66,9 +57,9 @@ fn ignore_broken_pipe(result: io::Result<()>) {
 }
 
 /// Answers every complete line that has arrived before it waits for more.
-fn speak(planted: Option<Planted>) -> io::Result<()> {
+fn speak() -> io::Result<()> {
     let (mut input, mut output) = (io::stdin().lock(), io::stdout().lock());
-    let mut console = Console::new(planted);
+    let mut console = Console::new();
     let mut piece = vec![0; 65_536];
     loop {
         let mut answers = Vec::new();
@@ -87,15 +78,6 @@ fn speak(planted: Option<Planted>) -> io::Result<()> {
             return Ok(());
         }
     }
-}
-
-/// Lists the names of the planted errors.
-fn list_planted() -> io::Result<()> {
-    let mut output = io::stdout().lock();
-    for (_, name) in ALL {
-        writeln!(output, "{name}")?;
-    }
-    Ok(())
 }
 
 /// Prints a random script.

@@ -10,7 +10,7 @@ fn lines(texts: &[&str]) -> Vec<Line> {
 
 /// The line of the first difference.
 fn differs_at(script: &[&str], theirs: &[&str]) -> Option<usize> {
-    difference(&lines(script), &lines(theirs)).map(|found| found.line)
+    difference(&lines(script), lines(theirs)).map(|found| found.line)
 }
 
 #[test]

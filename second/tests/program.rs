@@ -46,13 +46,6 @@ fn a_script_is_the_same_for_the_same_seed() {
 }
 
 #[test]
-fn the_planted_errors_are_listed() {
-    let listed = text(&run(&["planted"]));
-    assert!(listed.lines().count() >= 24);
-    assert!(listed.lines().any(|name| name == "fourteen-wait"));
-}
-
-#[test]
 fn compare_finds_itself_the_same() {
     let output = run(&["compare", "9", "5000", SECOND]);
     assert_eq!(text(&output), "same: seed 9, 5000 lines\n");
@@ -61,7 +54,9 @@ fn compare_finds_itself_the_same() {
 
 #[test]
 fn compare_shows_a_difference_cut_down() {
-    let output = run(&["compare", "9", "5000", SECOND, "--planted", "bounce-zero-reads-one"]);
+    // A program that gives KBDBOUNCE 1 as 0 if KBDSIZE 8C is read with it.
+    let wrong = "\"$0\" | sed 's/^0 01 8C$/0 00 8C/'";
+    let output = run(&["compare", "9", "5000", "sh", "-c", wrong, SECOND]);
     assert_eq!(output.status.code(), Some(1));
     let text = text(&output);
     let (before, short) = text.split_once("cut down to 2 lines:\n").unwrap();
@@ -70,8 +65,8 @@ fn compare_shows_a_difference_cut_down() {
     assert_eq!(lines.len(), 5);
     assert!(lines[0].contains("write"));
     assert!(lines[1].contains("read"));
-    assert!(lines[3].starts_with("second module: 0 00"));
-    assert!(lines[4].starts_with("the program:   0 01"));
+    assert!(lines[3].starts_with("second module: 0 01 8C"));
+    assert!(lines[4].starts_with("the program:   0 00 8C"));
 }
 
 #[test]
@@ -84,7 +79,7 @@ fn compare_shows_a_program_that_does_not_answer() {
 
 #[test]
 fn compare_shows_a_program_that_answers_unasked() {
-    let output = run(&["compare", "9", "500", SECOND, "planted"]);
+    let output = run(&["compare", "9", "500", SECOND, "script", "1", "9"]);
     assert_eq!(output.status.code(), Some(1));
     assert!(text(&output).contains("cut down to 0 lines:"));
     assert!(text(&output).contains("second module: (no answer)"));
@@ -102,11 +97,9 @@ fn compare_shows_a_program_that_ends_badly() {
 
 #[test]
 fn words_that_make_no_sense() {
-    let cases: [&[&str]; 10] = [
+    let cases: [&[&str]; 8] = [
         &["foo"],
-        &["--planted"],
-        &["--planted", "none-such"],
-        &["planted", "all"],
+        &["--foo"],
         &["script"],
         &["script", "1"],
         &["script", "x", "10"],

@@ -5,13 +5,13 @@ use second::script::{script, Line};
 
 /// The answers to a script.
 fn answers(script: &[Line]) -> Vec<String> {
-    let mut console = Console::new(None);
+    let mut console = Console::new();
     script.iter().filter_map(|line| console.answer(line)).collect()
 }
 
 /// The answers to the lines of a script that are exactly this command.
 fn answers_to(script: &[Line], command: &str) -> Vec<String> {
-    let mut console = Console::new(None);
+    let mut console = Console::new();
     let with_lines = script.iter().map(|line| (line, console.answer(line)));
     with_lines.filter(|(line, _)| *line == command.as_bytes()).filter_map(|pair| pair.1).collect()
 }

@@ -1,6 +1,7 @@
 //! Every access of 0 to 40 bytes at each of the 256 addresses.
 
 use crate::repeated;
+use second::calls::Calls;
 use second::console::Console;
 use second::module::Module;
 
@@ -33,7 +34,7 @@ fn expected(list: &[(u8, usize)], first: u8, length: usize) -> char {
 
 /// The first character of the answer to a line, from a module after reset.
 fn number(line: &str) -> char {
-    let answer = Console::new(None).answer(line.as_bytes()).unwrap();
+    let answer = Console::new().answer(line.as_bytes()).unwrap();
     answer.chars().next().unwrap()
 }
 
@@ -82,7 +83,7 @@ fn every_size() {
 
 #[test]
 fn a_read_fills_the_whole_buffer_or_none_of_it() {
-    let mut module = Module::new(None);
+    let mut module = Module::new();
     for (first, length) in [(0x10, 33), (0x0B, 5), (0x08, 1), (0x10, 0)] {
         let mut buffer = vec![0xAA; length];
         assert_ne!(module.read(first, &mut buffer), 0);

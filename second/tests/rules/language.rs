@@ -5,7 +5,7 @@ use second::console::{Console, LONGEST};
 
 /// The whole output for a whole input, given in pieces of some length.
 fn output_in_pieces(input: &[u8], length: usize) -> String {
-    let (mut console, mut output) = (Console::new(None), Vec::new());
+    let (mut console, mut output) = (Console::new(), Vec::new());
     for piece in input.chunks(length) {
         console.feed(piece, &mut output);
     }
@@ -24,7 +24,7 @@ fn output(input: &[u8]) -> String {
 
 /// Whether a line gets a `?` answer.
 fn refused(line: &[u8]) -> bool {
-    let answer = Console::new(None).answer(line).unwrap();
+    let answer = Console::new().answer(line).unwrap();
     answer.starts_with("? ") && answer.len() > 2 && !answer.contains('\n')
 }
 

@@ -9,7 +9,7 @@ use second::console::Console;
 
 /// Runs a session of lines `command -> answer` on a module after reset.
 fn session(text: &str) {
-    let mut console = Console::new(None);
+    let mut console = Console::new();
     for line in text.lines().map(str::trim).filter(|line| !line.is_empty()) {
         let (command, expected) = line.split_once(" -> ").expect(line);
         let answer = console.answer(command.as_bytes());

@@ -101,7 +101,7 @@ fn a_run_above_d_changes_too() {
 
 #[test]
 fn the_longest_bounce() {
-    let mut console = Console::new(None);
+    let mut console = Console::new();
     let mut say = |line: &str| console.answer(line.as_bytes()).unwrap();
     assert_eq!(say("write 02 FF"), "0");
     for (samples, code) in [("0 1 0 0 0 0 0 0", "0 10"), ("0 0 0 0 0 0 0 0", "0 90")] {
