@@ -212,7 +212,7 @@ fn fill_bytes(m: Module, first: u16, out: &mut [u8]) -> Module
 pub fn fill(m: Module, first: u16, out: &mut [u8]) -> Module
     ensures { λ r. ⌜ (r ≡ is.readAll m first (length (now (out .entry)))) × (now (out .exit) ≡ is.bytesRead m first (length (now (out .entry)))) ⌝ }
 {
-    if first == 0x10 {
+    if registers::stays(first) {
         return fill_codes(m, out);
     }
     fill_bytes(m, first, out)

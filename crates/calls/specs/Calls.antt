@@ -5,16 +5,16 @@
 --    outcome m x n, answer m a n    what a call hands back, by its number
 --    resetCall, lookCall, writeCall, readCall    the call: number and next state
 --    readBuffer m a out             the caller's buffer after a read
---    heldCall, lineCall             the questions: number, state and answer
+--    heldCall, interruptCall             the questions: number, state and answer
 use Prim.Native.Nat.{ℕ}
 use mathlib.Core.Bool.{Bool, false, not}
 use mathlib.Core.List.{List, [], _∷_, _++_}
 use lib.ListN.{length, getD}
 use lib.Dec.{eqb}
 use Rattle.words.specs.Words.{_if_, _else_}
-use Rattle.numbers.specs.Numbers.{Line, _gives_, numberOf, done, noKey, unsound, outOfSize}
-use Rattle.keys.specs.Keys.{isKey, keyAt}
-use Rattle.judge.specs.Lines.{sampleLines, readLines, writeLines}
+use Rattle.numbers.specs.Numbers.{Line, _gives_, numberOf, done, unsound, outOfSize}
+use Rattle.keys.specs.Keys.{keyAt}
+use Rattle.judge.specs.Lines.{sampleLines, readLines, writeLines, keyLines}
 use Rattle.state.specs.declared.Module.{Module}
 use Rattle.state.specs.Module.{fresh}
 use Rattle.flags.specs.Flags.{line}
@@ -29,7 +29,8 @@ unfoldable pub lookLines : Module → List ℕ → List Line
 lookLines m s = not (sound m) gives unsound ∷ sampleLines s ++ (strays m s gives outOfSize ∷ [])
 
 unfoldable pub heldLines : Module → ℕ → ℕ → List Line
-heldLines m row col = not (sound m) gives unsound ∷ not (isKey row col) gives noKey ∷ []
+unfolding keyLines
+heldLines m row col = not (sound m) gives unsound ∷ keyLines row col
 
 unfoldable pub lookNumber : Module → List ℕ → ℕ
 lookNumber m s = numberOf (lookLines m s)
@@ -43,8 +44,8 @@ readNumber m a n = numberOf (not (sound m) gives unsound ∷ readLines a n)
 unfoldable pub heldNumber : Module → ℕ → ℕ → ℕ
 heldNumber m row col = numberOf (heldLines m row col)
 
-unfoldable pub lineNumber : Module → ℕ
-lineNumber m = numberOf (not (sound m) gives unsound ∷ [])
+unfoldable pub interruptNumber : Module → ℕ
+interruptNumber m = numberOf (not (sound m) gives unsound ∷ [])
 
 -- "A declined call returns its number, the state as given": the number n, and the state x where it is 0, else m
 unfoldable pub outcome : Module → Module → ℕ → Done
@@ -74,5 +75,5 @@ readBuffer m a out = bytesRead m a (length out) if eqb (readNumber m a (length o
 unfoldable pub heldCall : Module → ℕ → ℕ → Answered
 heldCall m row col = answer m (getD (m .held) (keyAt row col) false) (heldNumber m row col)
 
-unfoldable pub lineCall : Module → Answered
-lineCall m = answer m (line m) (lineNumber m)
+unfoldable pub interruptCall : Module → Answered
+interruptCall m = answer m (line m) (interruptNumber m)

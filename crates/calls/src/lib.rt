@@ -4,7 +4,7 @@ use keys::Row;
 use state::Module;
 ghost use mathlib.Core.Path.{_≡_};
 ghost use lib.ListN.{length};
-ghost use Rattle.calls.specs.Calls.{resetCall, lookCall, writeCall, readCall, readBuffer, heldCall, lineCall};
+ghost use Rattle.calls.specs.Calls.{resetCall, lookCall, writeCall, readCall, readBuffer, heldCall, interruptCall};
 
 // What reset, look, write and read hand back; after a declined call the module is as it was given.
 #[repr(C)]
@@ -116,14 +116,15 @@ pub fn held(m: Module, row: Row, col: Col) -> Answered
             yes: false,
         };
     }
-    let key = keys::key_at(row, col);
-    if keys::NO_KEY <= key {
+    let number = judge::of_key(row, col);
+    if number != numbers::DONE {
         return Answered {
             after: m,
-            number: numbers::NO_KEY,
+            number: number,
             yes: false,
         };
     }
+    let key = keys::key_at(row, col);
     Answered {
         after: m,
         number: numbers::DONE,
@@ -133,7 +134,7 @@ pub fn held(m: Module, row: Row, col: Col) -> Answered
 
 // Is the interrupt line asserted?
 pub fn interrupt(m: Module) -> Answered
-    ensures { λ r. ⌜ r ≡ lineCall m ⌝ }
+    ensures { λ r. ⌜ r ≡ interruptCall m ⌝ }
 {
     if !sound::is_sound(m) {
         return Answered {

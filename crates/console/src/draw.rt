@@ -1,62 +1,50 @@
 // The panel drawn for a person, and the list of commands.
+use crate::out;
 use keys::Col;
 use keys::Row;
 use state::Module;
 use text::page;
 use text::page::Page;
-ghost use Prim.Native.Nat.{_≤_};
 
 // The line above the keys: five places, and three for each column's label.
 const HEAD: [u8; 41] = *b"row    0  1  2  3  4  5  6  7  8  9 10 11";
 
-// How the interrupt line is; each is written to its newline.
-const ASSERTED: [u8; 13] = *b"asserted\n    ";
-
-const NOT_ASSERTED: [u8; 13] = *b"not asserted\n";
-
-// The mark of a key: held or open.
-fn mark(held: &[bool; 104], row: u8, col: u8) -> u8 {
+// The mark of a key, held or open, behind two blanks; blanks alone where there is no such key.
+fn mark(p: Page, held: &[bool; 104], row: u8, col: u8) -> Page {
     let key = keys::key_at(Row(row), Col(col));
     if keys::NO_KEY <= key {
-        return b' ';
+        return out::text(p, b"   ");
     }
     if held[key] {
-        return b'#';
+        return out::text(p, b"  #");
     }
-    b'.'
+    out::text(p, b"  .")
 }
 
 // The line above the keys, with the labels of the first columns.
 fn columns(p: Page, cols: u8) -> Page {
     let head = HEAD;
     let n = 5 + 3 * page::least(cols as usize, 12);
-    let labelled = page::text(p, &head[0..n]);
-    page::text(labelled, b"   SF\n")
+    out::text(out::text(p, &head[0..n]), b"   SF\n")
 }
 
-// The marks of a row's keys, three places each behind the first five.
-fn marks(held: &[bool; 104], row: u8, cols: u8) -> [u8; 64]
-    requires { ⌜ cols ≤ 15 ⌝ }
-{
-    let mut line = [b' '; 64];
+// The marks of a row's keys.
+fn marks(p: Page, held: &[bool; 104], row: u8, cols: u8) -> Page {
+    let mut next = p;
     let mut c: u8 = 0;
     while c < cols {
-        line[7 + 3 * (c as usize)] = mark(held, row, c);
+        next = mark(next, held, row, c);
         c = c + 1;
     }
-    line
+    next
 }
 
 // The line of a row: its label, its keys, and its special function key apart.
-fn keys_of(p: Page, held: &[bool; 104], row: u8, cols: u8) -> Page
-    requires { ⌜ cols ≤ 15 ⌝ }
-{
-    let mut line = marks(held, row, cols);
-    let end = 9 + 3 * (cols as usize);
-    line[1] = page::glyph(row);
-    line[end] = mark(held, row, 12);
-    line[end + 1] = b'\n';
-    page::line(p, &line)
+fn keys_of(p: Page, held: &[bool; 104], row: u8, cols: u8) -> Page {
+    let label = out::decimal(out::text(p, b" "), row as u32);
+    let marked = marks(out::text(label, b"   "), held, row, cols);
+    let special = mark(out::text(marked, b"  "), held, row, 12);
+    out::text(special, b"\n")
 }
 
 // The keys of the size.
@@ -75,52 +63,59 @@ fn grid(p: Page, held: &[bool; 104], size: u8) -> Page {
 // The codes that wait, oldest first.
 fn codes(p: Page, queue: [u8; 15], count: u8) -> Page {
     let n = page::least(count as usize, 15);
-    let headed = page::text(p, b"waiting:");
-    page::listed(headed, &queue[0..n])
+    out::listed(out::text(p, b"waiting:"), &queue[0..n])
 }
 
-// The registers and flags.
-fn registers(p: Page, m: Module) -> Page {
+// A name and a register's byte.
+fn register(p: Page, name: &[u8], byte: u8) -> Page {
+    out::hex(out::text(p, name), byte)
+}
+
+// A name and a flag.
+fn flag(p: Page, name: &[u8], set: bool) -> Page {
+    out::decimal(out::text(p, name), set as u32)
+}
+
+// KBDRIS with its flags, and KBDMIS.
+fn interrupts(p: Page, m: Module) -> Page {
     let ris = flags::ris(m.relint, m.count, m.rklint, m.rsint);
-    let values = [
-        ris,
-        ris / 8 % 2,
-        ris / 4 % 2,
-        ris / 2 % 2,
-        ris % 2,
-        flags::mis(m.relint, m.count, m.rklint, m.rsint, m.mask),
-        m.bounce,
-        m.size,
-        m.mask,
-        m.porirq as u8,
-    ];
-    page::form(
-        p,
-        b"\nKBDRIS %: RELINT $, REVTINT $, RKLINT $, RSINT $\nKBDMIS %\nKBDBOUNCE %, KBDSIZE %, KBDMSK %\nPORIRQ $, interrupt line ",
-        &values,
-    )
+    let mis = flags::mis(m.relint, m.count, m.rklint, m.rsint, m.mask);
+    let byte = register(p, b"\nKBDRIS ", ris);
+    let relint = flag(byte, b": RELINT ", m.relint);
+    let revtint = flag(relint, b", REVTINT ", 0 < m.count);
+    let rklint = flag(revtint, b", RKLINT ", m.rklint);
+    let rsint = flag(rklint, b", RSINT ", m.rsint);
+    register(rsint, b"\nKBDMIS ", mis)
+}
+
+// The settings, and the power-on interrupt.
+fn settings(p: Page, m: Module) -> Page {
+    let bounce = register(p, b"\nKBDBOUNCE ", m.bounce);
+    let size = register(bounce, b", KBDSIZE ", m.size);
+    let mask = register(size, b", KBDMSK ", m.mask);
+    flag(mask, b"\nPORIRQ ", m.porirq)
 }
 
 // How the interrupt line is.
-fn level(asserted: bool) -> [u8; 13] {
+fn level(p: Page, asserted: bool) -> Page {
     if asserted {
-        return ASSERTED;
+        return out::text(p, b", interrupt line asserted\n.\n");
     }
-    NOT_ASSERTED
+    out::text(p, b", interrupt line not asserted\n.\n")
 }
 
 // The panel: keys, codes, registers, flags and line; the last line is a full stop.
 pub(crate) fn show(p: Page, m: Module) -> Page {
     let held = m.held;
     let queue = m.queue;
-    let asserted = level(flags::line(m));
-    let drawn = registers(codes(grid(p, &held, m.size), queue, m.count), m);
-    page::text(page::line(drawn, &asserted), b".\n")
+    let keys = grid(p, &held, m.size);
+    let waiting = codes(keys, queue, m.count);
+    level(settings(interrupts(waiting, m), m), flags::line(m))
 }
 
 // The commands; the last line is a full stop.
 pub(crate) fn help(p: Page) -> Page {
-    page::text(
+    out::text(
         p,
         b"reset              the panel after reset\n\
         look S0 S1 ..      one look: a 16-bit sample for each row; bit c is column c, bit 12 the SF key\n\

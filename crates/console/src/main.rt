@@ -1,12 +1,12 @@
 // The panel's console: a command a line in, an answer a line out.
+mod commands;
 mod draw;
+mod out;
 mod perform;
 mod reply;
 
-use commands::Asked;
-use commands::Command;
 use libc::STDIN_FILENO;
-use libc::STDOUT_FILENO;
+use perform::Answer;
 use state::Module;
 use text::number::Fault;
 use text::page;
@@ -24,6 +24,8 @@ const RETURN: u8 = 13;
 // What is kept from one piece of input to the next.
 struct Session {
     panel: Module,
+    // the answers that are not written out yet
+    page: Page,
     // the bytes held of the line that has not ended, or TOO_LONG
     held: usize,
     // is there more to come, and could every answer be written?
@@ -73,20 +75,6 @@ fn is_ended(part: &[u8]) -> bool {
     part[n - 1] == NEWLINE
 }
 
-// Writes out the first bytes of a list.
-fn send(bytes: &[u8], at: usize) -> bool {
-    if at <= bytes.len() {
-        return io::write_all(STDOUT_FILENO, &bytes[0..at]);
-    }
-    false
-}
-
-// Writes out an answer.
-fn say(page: Page) -> bool {
-    let bytes = page.bytes;
-    send(&bytes, page.at)
-}
-
 // A line without the one carriage return that may end it.
 fn without_return(line: &[u8], held: usize) -> usize
     requires { ⌜ held ≤ length (now line) ⌝ }
@@ -101,94 +89,132 @@ fn without_return(line: &[u8], held: usize) -> usize
     held
 }
 
-// What the line that has ended asks for; its numbers go to the list.
-fn asked(line: &[u8], held: usize, values: &mut [u16]) -> Asked
-    requires { ⌜ 1 < length (now values) ⌝ }
-    ensures { λ r. ⌜ r .count ≤ length (now (values .exit)) ⌝ }
-{
-    if line.len() < held {
-        return commands::wrong(Fault::TooLong);
-    }
-    let end = without_return(line, held);
-    commands::asks(&line[0..end], values)
-}
-
-// Does a command and answers it.
-fn answered(s: Session, command: Command, values: &[u16]) -> Session {
-    let mut bytes = [0u8; 1024];
-    let panel = s.panel;
-    let done = perform::perform(command, panel, values, &mut bytes);
-    let n = page::least(perform::count_of(values), 1024);
-    let after = done.after;
+// The session after an answer.
+fn answered(s: Session, answer: Answer) -> Session {
+    let after = answer.after;
+    let page = answer.page;
     Session {
         panel: after,
+        page: page,
         held: 0,
-        on: s.on & say(reply::reply(page::empty(), command, done, &bytes[0..n])),
+        on: s.on,
     }
+}
+
+// Answers a line.
+fn reply_to(s: Session, line: &[u8], values: &mut [u16; 8192], bytes: &mut [u8; 8192]) -> Session {
+    let panel = s.panel;
+    let page = s.page;
+    if perform::is_nothing(line) {
+        let mut next = s;
+        next.held = 0;
+        return next;
+    }
+    answered(s, perform::perform(page, panel, line, values, bytes))
 }
 
 // Answers the line that has ended.
-fn end_line(s: Session, line: &[u8]) -> Session {
-    let mut values = [0u16; 8192];
-    let asked = asked(line, s.held, &mut values);
-    let count = asked.count;
-    let command = asked.command;
-    answered(s, command, &values[0..count])
+fn end_line(s: Session, line: &[u8], values: &mut [u16; 8192], bytes: &mut [u8; 8192]) -> Session {
+    let held = s.held;
+    if line.len() < held {
+        let panel = s.panel;
+        let page = s.page;
+        return answered(s, perform::refused(page, panel, Fault::TooLong));
+    }
+    let end = without_return(line, held);
+    reply_to(s, &line[0..end], values, bytes)
 }
 
 // Takes in a part of a line, with its newline where it has one.
-fn take_in(s: Session, part: &[u8], line: &mut [u8]) -> Session {
+fn take_in(
+    s: Session,
+    part: &[u8],
+    line: &mut [u8; 16384],
+    values: &mut [u16; 8192],
+    bytes: &mut [u8; 8192],
+) -> Session {
     let mut next = s;
     next.held = keep(line, s.held, part);
     if is_ended(part) {
-        return end_line(next, line);
+        return end_line(next, line, values, bytes);
     }
     next
 }
 
 // Takes in a piece of input and answers all lines that it ends.
-fn feed(s: Session, input: &[u8], line: &mut [u8]) -> Session {
+fn feed(
+    s: Session,
+    input: &[u8],
+    line: &mut [u8; 16384],
+    values: &mut [u16; 8192],
+    bytes: &mut [u8; 8192],
+) -> Session {
     let mut session = s;
     let mut i: usize = 0;
     while i < input.len() {
         let end = line_end(input, i);
-        session = take_in(session, &input[i..end], line);
+        session = take_in(session, &input[i..end], line, values, bytes);
         i = end;
     }
     session
 }
 
+// Writes out the answers.
+fn written(s: Session) -> Session {
+    let page = out::written(s.page);
+    let mut next = s;
+    next.on = s.on & page.ok;
+    next.page = page;
+    next
+}
+
 // The end of the input: a final line without a newline counts.
-fn finish(s: Session, line: &[u8]) -> Session {
+fn finish(s: Session, line: &[u8], values: &mut [u16; 8192], bytes: &mut [u8; 8192]) -> Session {
     let mut last = s;
     if 0 < s.held {
-        last = end_line(s, line);
+        last = written(end_line(s, line, values, bytes));
     }
     last.on = false;
     last
 }
 
+// Waits for input, and tells how many bytes have arrived.
+fn receive(input: &mut [u8]) -> usize
+    ensures { λ r. ⌜ r ≤ length (now (input .exit)) ⌝ }
+{
+    let got = libc::read(STDIN_FILENO, input);
+    io::count(got, input)
+}
+
 // Waits for input, and answers every line that has arrived.
-fn turn(s: Session, line: &mut [u8; 16384]) -> Session {
-    let mut input = io::large_buffer();
-    let got = libc::read(STDIN_FILENO, &mut input);
-    let n = io::count(got, &input);
+fn turn(
+    s: Session,
+    input: &mut [u8],
+    line: &mut [u8; 16384],
+    values: &mut [u16; 8192],
+    bytes: &mut [u8; 8192],
+) -> Session {
+    let n = receive(input);
     if n < 1 {
-        return finish(s, line);
+        return finish(s, line, values, bytes);
     }
-    feed(s, &input[..n], line)
+    written(feed(s, &input[0..n], line, values, bytes))
 }
 
 fn main() {
+    let mut input = io::large_buffer();
     let mut line = [0u8; 16384];
+    let mut values = [0u16; 8192];
+    let mut bytes = [0u8; 8192];
     let mut s = Session {
         panel: state::fresh(),
+        page: page::empty(),
         held: 0,
         on: true,
     };
     let mut turns = u64::MAX;
     while turns > 0 && s.on {
-        s = turn(s, &mut line);
+        s = turn(s, &mut input, &mut line, &mut values, &mut bytes);
         turns -= 1;
     }
 }

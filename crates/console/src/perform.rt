@@ -1,32 +1,53 @@
-// The commands done.
+// The commands, done and answered.
+use crate::commands;
+use crate::commands::Heard;
+use crate::commands::Pair;
+use crate::draw;
+use crate::reply;
 use calls::Answered;
 use calls::Done;
-use commands::Command;
 use keys::Col;
 use keys::Row;
 use state::Module;
+use text::number::Fault;
+use text::page::Page;
+use text::word::is_same;
+use text::word::word_from;
 ghost use Prim.Native.Nat.{_≤_};
 ghost use lib.ListN.{length};
 
-// No line has more words.
-const MOST: usize = 8192;
+const COMMENT: u8 = b'#';
 
-// A number of the list; 0 where there is none.
-fn value_at(values: &[u16], i: usize) -> u16 {
-    if i < values.len() {
-        return values[i];
+// The panel after a command, and the page with the end of its answer.
+pub(crate) struct Answer {
+    pub after: Module,
+    pub page: Page,
+}
+
+// The answer of a call that is told by its number.
+fn told(p: Page, done: Done) -> Answer {
+    let after = done.after;
+    Answer {
+        after: after,
+        page: reply::numbered(p, done.number),
     }
-    0
 }
 
-// The low byte of a number of the list.
-fn byte_at(values: &[u16], i: usize) -> u8 {
-    (value_at(values, i) % 256) as u8
+// The answer of a question.
+fn question(p: Page, answered: Answered) -> Answer {
+    let after = answered.after;
+    Answer {
+        after: after,
+        page: reply::question(p, answered.number, answered.yes),
+    }
 }
 
-// How many bytes a read asks for.
-pub(crate) fn count_of(values: &[u16]) -> usize {
-    value_at(values, 1) as usize
+// The answer of a line with something wrong.
+pub(crate) fn refused(p: Page, m: Module, fault: Fault) -> Answer {
+    Answer {
+        after: m,
+        page: reply::refusal(p, fault),
+    }
 }
 
 // Numbers as bytes.
@@ -35,67 +56,181 @@ fn narrow(values: &[u16], bytes: &mut [u8])
 {
     let mut i: usize = 0;
     while i < values.len() {
-        bytes[i] = byte_at(values, i);
+        bytes[i] = (values[i] % 256) as u8;
         i = i + 1;
     }
 }
 
-// The panel as it was.
-fn unchanged(m: Module) -> Answered {
-    Answered {
-        after: m,
-        number: numbers::DONE,
-        yes: false,
-    }
-}
-
-// What is handed back by a call that answers no question.
-fn told(done: Done) -> Answered {
-    let after = done.after;
-    Answered {
-        after: after,
-        number: done.number,
-        yes: false,
+// `look S0 S1 ..`
+fn look(p: Page, m: Module, rest: &[u8], values: &mut [u16]) -> Answer {
+    let listed = commands::list_of(rest, 0xFFFF, values);
+    let count = listed.count;
+    let heard = listed.heard;
+    match heard {
+        Heard::Wrong(fault) => refused(p, m, fault),
+        Heard::Well => told(p, calls::look(m, &values[0..count])),
     }
 }
 
 // `write AA B0 B1 ..`
-fn write(m: Module, values: &[u16]) -> Answered {
+fn write(p: Page, m: Module, rest: &[u8], values: &mut [u16], bytes: &mut [u8]) -> Answer
+    requires { ⌜ length (now values) ≤ length (now bytes) ⌝ }
+{
+    let listed = commands::bytes_of(rest, values);
+    let count = listed.count;
+    let heard = listed.heard;
+    match heard {
+        Heard::Wrong(fault) => refused(p, m, fault),
+        Heard::Well => write_list(p, m, &values[0..count], bytes),
+    }
+}
+
+// A write of the bytes of a list, to the address in front of them.
+fn write_list(p: Page, m: Module, values: &[u16], bytes: &mut [u8]) -> Answer
+    requires { ⌜ length (now values) ≤ length (now bytes) ⌝ }
+{
     let n = values.len();
     if n < 1 {
-        return unchanged(m);
+        return refused(p, m, Fault::TooFew);
     }
-    if MOST < n {
-        return unchanged(m);
-    }
-    let mut bytes = [0u8; 8192];
-    narrow(values, &mut bytes);
-    told(calls::write(m, bytes[0], &bytes[1..n]))
+    narrow(values, bytes);
+    told(p, calls::write(m, bytes[0], &bytes[1..n]))
 }
 
 // `read AA COUNT`
-fn read(m: Module, values: &[u16], bytes: &mut [u8]) -> Answered {
-    let count = count_of(values);
-    if bytes.len() < count {
-        return unchanged(m);
+fn read(p: Page, m: Module, rest: &[u8], bytes: &mut [u8]) -> Answer {
+    let pair = commands::pair_of(rest, 16, 1024);
+    match pair {
+        Pair::Wrong(fault) => refused(p, m, fault),
+        Pair::Numbers(first, count) => read_bytes(p, m, (first % 256) as u8, count as usize, bytes),
     }
-    told(calls::read(m, byte_at(values, 0), &mut bytes[0..count]))
+}
+
+// A read of so many bytes from an address on.
+fn read_bytes(p: Page, m: Module, first: u8, count: usize, bytes: &mut [u8]) -> Answer {
+    let n = text::page::least(count, bytes.len());
+    let done = calls::read(m, first, &mut bytes[0..n]);
+    let after = done.after;
+    Answer {
+        after: after,
+        page: reply::bytes_read(p, done.number, &bytes[0..n]),
+    }
 }
 
 // `held ROW COL`
-fn held(m: Module, values: &[u16]) -> Answered {
-    calls::held(m, Row(byte_at(values, 0)), Col(byte_at(values, 1)))
+fn held(p: Page, m: Module, rest: &[u8]) -> Answer {
+    let pair = commands::pair_of(rest, 10, 0xFF);
+    match pair {
+        Pair::Wrong(fault) => refused(p, m, fault),
+        Pair::Numbers(row, col) => {
+            question(
+                p,
+                calls::held(m, Row((row % 256) as u8), Col((col % 256) as u8)),
+            )
+        }
+    }
 }
 
-// Does a command; a read leaves its bytes in the buffer.
-pub(crate) fn perform(command: Command, m: Module, values: &[u16], bytes: &mut [u8]) -> Answered {
-    match command {
-        Command::Reset => told(calls::reset()),
-        Command::Look => told(calls::look(m, values)),
-        Command::Write => write(m, values),
-        Command::Read => read(m, values, bytes),
-        Command::Held => held(m, values),
-        Command::Irq => calls::interrupt(m),
-        _ => unchanged(m),
+// `irq`
+fn irq(p: Page, m: Module, rest: &[u8]) -> Answer {
+    if !commands::is_empty(rest) {
+        return refused(p, m, Fault::TooMany);
     }
+    question(p, calls::interrupt(m))
+}
+
+// `reset`
+fn reset(p: Page, m: Module, rest: &[u8]) -> Answer {
+    if !commands::is_empty(rest) {
+        return refused(p, m, Fault::TooMany);
+    }
+    told(p, calls::reset())
+}
+
+// `show`
+fn show(p: Page, m: Module, rest: &[u8]) -> Answer {
+    if !commands::is_empty(rest) {
+        return refused(p, m, Fault::TooMany);
+    }
+    Answer {
+        after: m,
+        page: draw::show(p, m),
+    }
+}
+
+// `help`
+fn help(p: Page, m: Module, rest: &[u8]) -> Answer {
+    if !commands::is_empty(rest) {
+        return refused(p, m, Fault::TooMany);
+    }
+    Answer {
+        after: m,
+        page: draw::help(p),
+    }
+}
+
+// Does a line ask for nothing? A blank line and a comment do.
+pub(crate) fn is_nothing(line: &[u8]) -> bool {
+    let w = word_from(line, 0);
+    let start = w.start;
+    if w.start == w.end {
+        return true;
+    }
+    line[start] == COMMENT
+}
+
+// The commands that need no list; no other word is a command.
+fn listless(p: Page, m: Module, word: &[u8], rest: &[u8]) -> Answer {
+    if is_same(word, b"held") {
+        return held(p, m, rest);
+    }
+    if is_same(word, b"irq") {
+        return irq(p, m, rest);
+    }
+    if is_same(word, b"reset") {
+        return reset(p, m, rest);
+    }
+    if is_same(word, b"show") {
+        return show(p, m, rest);
+    }
+    if is_same(word, b"help") {
+        return help(p, m, rest);
+    }
+    refused(p, m, Fault::Unknown)
+}
+
+// Does the command that a word names, with the words behind it, and answers it. Each group of commands has a function, since the check of many arms in one grows with their square.
+fn named(
+    p: Page,
+    m: Module,
+    word: &[u8],
+    rest: &[u8],
+    values: &mut [u16; 8192],
+    bytes: &mut [u8; 8192],
+) -> Answer {
+    if is_same(word, b"look") {
+        return look(p, m, rest, values);
+    }
+    if is_same(word, b"read") {
+        return read(p, m, rest, bytes);
+    }
+    if is_same(word, b"write") {
+        return write(p, m, rest, values, bytes);
+    }
+    listless(p, m, word, rest)
+}
+
+// Does the command of a line and answers it; its numbers go to the lists.
+pub(crate) fn perform(
+    p: Page,
+    m: Module,
+    line: &[u8],
+    values: &mut [u16; 8192],
+    bytes: &mut [u8; 8192],
+) -> Answer {
+    let w = word_from(line, 0);
+    let start = w.start;
+    let end = w.end;
+    let n = line.len();
+    named(p, m, &line[start..end], &line[end..n], values, bytes)
 }

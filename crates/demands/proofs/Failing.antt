@@ -37,46 +37,41 @@ opposite-not false e = true-false (sym e)
 
 module _ (M : Machine) (cs : List Call) where
   -- the codes fetched and those that wait
-  unfoldable pub LedgerWrong : List ℕ → List ℕ → Type 0
+  abbrev pub LedgerWrong : List ℕ → List ℕ → Type 0
   LedgerWrong found wanted =
       (all fits cs ≡ true) × (fetched M cs ++ seen M (after M cs) ≡ found) × (kept (arrivals (done M cs)) ≡ wanted) × (same found wanted ≡ false)
 
   pub no-ledger : (found wanted : List ℕ) → LedgerWrong found wanted → Demand3 M → ⊥
-  unfolding LedgerWrong
   no-ledger found wanted w d = differ found wanted (w .3) (sym (w .1) ∙ d .ledger cs (w .0) ∙ w .2)
 
   -- how a key is held
-  unfoldable pub KeyWrong : ℕ → ℕ → Bool → Type 0
+  abbrev pub KeyWrong : ℕ → ℕ → Bool → Type 0
   KeyWrong row col found = (all fits cs ≡ true) × (M .does (after M cs) (held row col) .answer ≡ found) × (sheet.held (13 * row + col) (done M cs) ≡ not found)
 
   pub no-key : (row col : ℕ) (found : Bool) → row ≤ 7 → col ≤ 12 → KeyWrong row col found → Demand2 M → ⊥
-  unfolding KeyWrong
   no-key row col found r c w d = opposite-not found (sym (w .1) ∙ d .keys cs (w .0) row col r c ∙ w .2)
 
   -- the bytes of a done read, into a buffer of 0xEE
-  unfoldable pub BytesWrong : ℕ → List ℕ → List ℕ → Type 0
+  abbrev pub BytesWrong : ℕ → List ℕ → List ℕ → Type 0
   BytesWrong a found wanted =
       let out : List ℕ = replicate (length wanted) 0xEE in
       let g = M .does (after M cs) (read a out) in
       (g .number ≡ 0) × (g .buffer ≡ found) × (bytesOf a (length out) (done M cs) ≡ wanted) × (same found wanted ≡ false)
 
   pub no-bytes : (a : ℕ) (found wanted : List ℕ) → BytesWrong a found wanted → Demand2 M → ⊥
-  unfolding BytesWrong
   no-bytes a found wanted w d = differ found wanted (w .3) (sym (w .1) ∙ d .bytes cs a (replicate (length wanted) 0xEE) (w .0) ∙ w .2)
 
   -- a byte of EVTCODE is the empty mark; what was fetched, and what the history demands
-  unfoldable pub ProgressWrong : List ℕ → List ℕ → Type 0
+  abbrev pub ProgressWrong : List ℕ → List ℕ → Type 0
   ProgressWrong found wanted =
       (all fits cs ≡ true) × (M .does (after M cs) (read 0x10 (0 ∷ [])) .buffer ≡ 0x7F ∷ []) × (fetched M cs ≡ found) × (kept (arrivals (done M cs)) ≡ wanted) × (same found wanted ≡ false)
 
   pub no-progress : (found wanted : List ℕ) → ProgressWrong found wanted → Demand3 M → ⊥
-  unfolding ProgressWrong
   no-progress found wanted w d = differ found wanted (w .4) (sym (w .2) ∙ d .progress cs (w .0) (w .1) ∙ w .3)
 
   -- RELINT is not set, though a loss is unreported
-  unfoldable pub LossWrong : Type 0
+  abbrev pub LossWrong : Type 0
   LossWrong = (all fits cs ≡ true) × (all (bit 3) (M .does (after M cs) (read 0x06 (0 ∷ [])) .buffer) ≡ false) × (some (unreported (done M cs)) ≡ true)
 
   pub no-report : LossWrong → NoSilentLoss M → ⊥
-  unfolding LossWrong
   no-report w d = true-false (sym (w .2) ∙ sym (d .told cs (w .0)) ∙ w .1)

@@ -15,3 +15,4 @@ pub mod Sessions
 pub mod Determined
 pub mod Source
 pub mod Total
+pub mod Opened

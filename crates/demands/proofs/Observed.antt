@@ -34,7 +34,7 @@ use Rattle.state.specs.declared.Module.{Module}
 use Rattle.flags.specs.Flags.{line}
 use Rattle.sound.specs.Sound.{sound}
 use Rattle.access.specs.Accesses.{bytesRead}
-use Rattle.calls.specs.Calls.{heldLines, readNumber, heldNumber, lineNumber, outcome, answer, readCall, readBuffer, heldCall, lineCall}
+use Rattle.calls.specs.Calls.{heldLines, readNumber, heldNumber, interruptNumber, outcome, answer, readCall, readBuffer, heldCall, interruptCall}
 use Rattle.calls.proofs.Laws.{sound-then}
 use Rattle.demands.specs.Machine.{Call, reset, look, write, read, held, interrupt, wrotes, gots, happened, done, fits, codesIn, covers, fetchedBy, fetched, seen}
 use Rattle.demands.specs.Machine as machine
@@ -71,12 +71,12 @@ held-observed cs t row col r c =
     rw (held-done (machine.after ours cs) row col (reached-sound cs t) key, key)
     (ap (λ (m : Module). getD (m .held) (13 * row + col) false) (reached cs) ∙ held-shown (done ours cs) (13 * row + col) (omega arith))
 
-line-done : (m : Module) → sound m ≡ true → lineNumber m ≡ 0
-unfolding lineNumber
+line-done : (m : Module) → sound m ≡ true → interruptNumber m ≡ 0
+unfolding interruptNumber
 line-done m ok = sound-then m [] ok ∙ ends
 
 pub line-observed : (cs : List Call) → all fits cs ≡ true → called (machine.after ours cs) interrupt .answer ≡ sheet.line (done ours cs)
-unfolding called asking lineCall answer
+unfolding called asking interruptCall answer
 line-observed cs t = rw (line-done (machine.after ours cs) (reached-sound cs t)) (ap line (reached cs) ∙ line-shown (done ours cs))
 
 -- ---- the codes that were fetched

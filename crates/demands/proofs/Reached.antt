@@ -14,16 +14,17 @@ use native.Mathlib.Omega.{arith}
 use mathlib.Core.Path.{_≡_, refl, sym, ap, _∙_, subst}
 use mathlib.Core.Bool.{Bool, true, false, cond, not, _&&_}
 use mathlib.Core.List.{List, [], _∷_}
-use borrow.Author.Tests.{le-leb, ltb-true}
+use borrow.Author.Tests.{le-leb, ltb-true, eqb-true, not-false}
 use lib.Dec.{eqb, leb, ltb}
 use lib.ListN.{length}
 use Rattle.words.specs.Words.{all}
 use Rattle.words.proofs.Laws.{and-left, and-right, and-both, all-first, all-rest}
-use Rattle.numbers.specs.Numbers.{_gives_, numberOf}
+use Rattle.numbers.specs.Numbers.{_gives_, badSize, unsound}
+use Rattle.numbers.proofs.Laws.{declining, line-false}
 use Rattle.registers.specs.declared.Access.the-variants.{Write}
 use Rattle.registers.specs.declared.Register.{Register}
 use Rattle.registers.specs.Registers.{registerAt}
-use Rattle.registers.specs.Runs.{next, runAllowed}
+use Rattle.registers.specs.Runs.{next}
 use Rattle.judge.specs.Lines.{byteFits, sizesFit, accessLines, writeLines}
 use Rattle.sheet.specs.Sheet as sheet
 use Rattle.sheet.specs.Sheet.{Past, looked, wrote, got}
@@ -35,7 +36,7 @@ use Rattle.sound.proofs.Exactly.{sound-said}
 use Rattle.scan.specs.Scan as scan
 use Rattle.access.specs.Bytes.{byteOf}
 use Rattle.access.specs.Accesses as access
-use Rattle.calls.specs.Calls.{lookNumber, writeNumber, readNumber, outcome, answer, resetCall, lookCall, writeCall, readCall, heldCall, lineCall}
+use Rattle.calls.specs.Calls.{lookNumber, writeNumber, readNumber, outcome, answer, resetCall, lookCall, writeCall, readCall, heldCall, interruptCall}
 use Rattle.demands.specs.Machine.{Call, reset, look, write, read, held, interrupt, wrotes, gots, happened, done, fits}
 use Rattle.demands.specs.Machine as machine
 use Rattle.demands.specs.Demands.{bytesOf}
@@ -77,11 +78,12 @@ no-matter false past = refl
 
 module _ (m : Module) (past : Past) (e : m ≡ after past) where
   called-after : (c : Call) → called m c .next ≡ after (cond (eqb (called m c .number) 0) (happened c past) past)
-  unfolding called changing asking resetCall lookCall writeCall readCall heldCall lineCall outcome answer happened after
+  unfolding called changing asking resetCall lookCall writeCall readCall heldCall interruptCall outcome answer happened after
   called-after reset = refl
   called-after (look s) = same-way (eqb (lookNumber m s) 0) (scan.looked m s) m (looked s ∷ past) past (ap (λ (x : Module). scan.looked x s) e) e
   called-after (write a bs) =
-      same-way (eqb (writeNumber m a bs) 0) (access.wrote m a bs) m (wrotes a bs past) past (ap (λ (x : Module). access.wrote x a bs) e ∙ writes-after a bs past) e
+      same-way (eqb (writeNumber m a bs) 0) (access.wrote m a bs) m (wrotes a bs past) past
+      (ap (λ (x : Module). access.wrote x a bs) e ∙ writes-after a bs past) e
   called-after (read a out) =
       same-way (eqb (readNumber m a (length out)) 0) (access.readAll m a (length out)) m (gots a (length out) past) past
       (ap (λ (x : Module). access.readAll x a (length out)) e ∙ reads-after a (length out) past) e
@@ -109,26 +111,21 @@ fitting-wrote r b past byte fit f =
     let low : b < 256 = ltb-true b 256 byte in
     and-both (leb b 0xFF && byteFits r b) (fitting past) (and-both (leb b 0xFF) (byteFits r b) (le-leb b 0xFF (omega arith)) fit) f
 
-fitting-writes : (a : ℕ) (bs : List ℕ) (past : Past) → all (λ b. ltb b 256) bs ≡ true → sizesFit a bs ≡ true → fitting past ≡ true → fitting (wrotes a bs past) ≡ true
+fitting-writes : (a : ℕ) (bs : List ℕ) (past : Past)
+    → all (λ b. ltb b 256) bs ≡ true → sizesFit a bs ≡ true → fitting past ≡ true → fitting (wrotes a bs past) ≡ true
 unfolding wrotes sizesFit
 fitting-writes a [] past low fit f = f
 fitting-writes a (b ∷ bs) past low fit f =
-    fitting-writes (next a) bs (wrote (registerAt a) b ∷ past) (all-rest (λ b. ltb b 256) b bs low) (and-right (byteFits (registerAt a) b) (sizesFit (next a) bs) fit)
+    fitting-writes (next a) bs (wrote (registerAt a) b ∷ past)
+    (all-rest (λ b. ltb b 256) b bs low) (and-right (byteFits (registerAt a) b) (sizesFit (next a) bs) fit)
     (fitting-wrote (registerAt a) b past (all-first (λ b. ltb b 256) b bs low) (and-left (byteFits (registerAt a) b) (sizesFit (next a) bs) fit) f)
 
 -- a write that is done has no bad byte for KBDSIZE
-six-lines : (a b c d e : Bool) → eqb (numberOf (a gives 8 ∷ b gives 3 ∷ c gives 4 ∷ d gives 5 ∷ not e gives 6 ∷ [])) 0 ≡ true → e ≡ true
-unfolding numberOf
-six-lines a b c d true h = refl
-six-lines true b c d false h = cc
-six-lines false true c d false h = cc
-six-lines false false true d false h = cc
-six-lines false false false true false h = cc
-six-lines false false false false false h = cc
-
 write-fit : (m : Module) (a : ℕ) (bs : List ℕ) → eqb (writeNumber m a bs) 0 ≡ true → sizesFit a bs ≡ true
-unfolding writeNumber writeLines accessLines
-write-fit m a bs h = six-lines (not (sound m)) (eqb (length bs) 0) (ltb 32 (length bs)) (not (runAllowed Write a (length bs))) (sizesFit a bs) h
+unfolding writeNumber writeLines accessLines declining
+write-fit m a bs h =
+    let earlier = not (sound m) gives unsound ∷ accessLines Write a (length bs) in
+    not-false (sizesFit a bs) (line-false earlier (not (sizesFit a bs)) badSize [] refl (eqb-true (writeNumber m a bs) 0 h))
 
 fitting-call : (m : Module) (past : Past) (c : Call) → fits c ≡ true → fitting past ≡ true
     → (b : Bool) → eqb (called m c .number) 0 ≡ b → fitting (cond b (happened c past) past) ≡ true

@@ -13,44 +13,25 @@ use mathlib.Core.List.{List, [], _∷_}
 use lib.ListN.{replicate}
 use lib.Dec.{ltb}
 use borrow.Author.Tests.{ltb-true}
-use Rattle.words.specs.Words.{every, all, allBelow, among, some, bit, without, table}
 use Rattle.words.proofs.Lists.{all-anywhere, all-replicate}
-use Rattle.numbers.specs.Numbers.{numberOf}
-use Rattle.keys.specs.Keys.{isKey, keyAt, rowOf, colOf, pressCode, releaseCode, code, keyOf, acceptable, inSize, keyIn, sample}
-use Rattle.contact.specs.Contact as contact
-use Rattle.contact.specs.Contact.{looks, opposite, samples, heldAfter, stepped}
-use Rattle.registers.specs.Registers.{registerAt, allowed, address, _is_}
-use Rattle.registers.specs.Runs.{next, addresses, runAllowed}
-use Rattle.judge.specs.Lines.{high, sampleLines, accessLines, byteFits, sizesFit, readLines, writeLines}
-use Rattle.sheet.specs.Sheet as sheet
-use Rattle.sheet.specs.Ledger.{codeGot, room, arriving, kept, lost, coming, arrivals, unreported}
-use Rattle.sheet.specs.Ledger as ledger
+use Rattle.registers.specs.Runs.{next}
 use Rattle.state.specs.declared.Module.{Module}
-use Rattle.state.specs.Module as state
 use Rattle.state.specs.Module.{fresh, forgotten, withBounce, withMask}
 use Rattle.state.specs.Typed.{Typed}
-use Rattle.state.specs.Queue as queues
-use Rattle.flags.specs.Flags.{weigh, ris, mis, line}
-use Rattle.picture.specs.Picture as picture
-use Rattle.sound.specs.Sound.{keySound, keysSound, codesSound, restUnused, sound}
-use Rattle.scan.specs.Scan as scan
-use Rattle.access.specs.Bytes as bytes
-use Rattle.access.specs.Accesses as access
-use Rattle.calls.specs.Calls.{lookLines, heldLines, lookNumber, writeNumber, readNumber, heldNumber, lineNumber, outcome, answer, resetCall, lookCall, writeCall, readCall, readBuffer, heldCall, lineCall}
-use Rattle.demands.specs.Machine.{Call, reset, look, write, read, held, interrupt, after, wrotes, gots, happened, done, fits, codesIn, covers, fetchedBy, fetched, seen}
+use Rattle.calls.specs.Calls.{lookCall, writeCall, readCall, readBuffer, interruptCall}
+use Rattle.demands.specs.Machine.{Call, reset, look, write, read, held, interrupt, after}
 use Rattle.demands.specs.Table.{rules}
-use Rattle.demands.specs.Demands.{Demand1, Demand2, Demand3, NoSilentLoss, bytesOf}
-use Rattle.demands.specs.Ours.{changing, asking, called, ours}
-use Rattle.demands.specs.Sessions.{same}
-use Rattle.demands.specs.Wrong.{usual, calledBy, declined, declining, blankBytes, stays, blank, stuck, nothing, asleep, carried, ignoring, handled, firstLook, onlyFirst, once, madeUp, inventive, runsKept, remembering, roomFor, keysKept, unchanged, quiet, hushing, hushed, lowering, emptied, emptying, trusted, trusting, pastState, pastBytes, passing, takenFirst, hurried, hasty, putLate, putAllLate, oldestLost, forgetful, single, singleStays, singleBlank, stingy, silent}
-use Rattle.demands.specs.Wrong as wrong
+use Rattle.demands.specs.Demands.{Demand1, Demand2, Demand3, NoSilentLoss}
+use Rattle.demands.specs.Ours.{called, ours}
+use Rattle.demands.specs.Wrong.{usual, calledBy, declined, declining, blank, stuck, asleep, firstLook, once, inventive, remembering, unchanged, lowering, emptying, trusted, trusting, passing, hasty, forgetful, stingy, silent}
 use Rattle.demands.proofs.Failing.{LedgerWrong, no-ledger, KeyWrong, no-key, BytesWrong, no-bytes, ProgressWrong, no-progress, LossWrong, no-report}
+use Rattle.demands.proofs.Opened.{opened}
 use Rattle.demands.proofs.Numbers.{first-only}
 use Rattle.demands.proofs.Rows.{numbers-exact}
 
 -- ---- ours, but for one effect
 built-usual : (m : Module) (c : Call) → calledBy usual m c ≡ called m c
-unfolding calledBy called lookCall writeCall readCall readBuffer lineCall
+unfolding calledBy called lookCall writeCall readCall readBuffer interruptCall
 built-usual m reset = refl
 built-usual m (look s) = refl
 built-usual m (write a bs) = refl
@@ -60,31 +41,31 @@ built-usual m interrupt = refl
 
 -- ---- the calls, newest first
 -- a look with these samples of rows 0 and 1, the other rows open
-rows : ℕ → ℕ → Call
+abbrev rows : ℕ → ℕ → Call
 rows row0 row1 = look (row0 ∷ row1 ∷ 0 ∷ 0 ∷ 0 ∷ 0 ∷ 0 ∷ 0 ∷ [])
 
 -- row 1 column 1 closed for one look, with bounce 1
-pressed : List Call
+abbrev pressed : List Call
 pressed = rows 0 0x0002 ∷ write 0x02 (1 ∷ []) ∷ []
 
 -- the same key closed for one look before a restart and one after it, with bounce 2
-restarted : List Call
+abbrev restarted : List Call
 restarted = rows 0 0x0002 ∷ write 0x03 (0x22 ∷ []) ∷ rows 0 0x0002 ∷ write 0x02 (2 ∷ []) ∷ []
 
 -- the same key closed in the second look, with bounce 1
-second : List Call
+abbrev second : List Call
 second = rows 0 0x0002 ∷ rows 0 0 ∷ write 0x02 (1 ∷ []) ∷ []
 
 -- sixteen keys closed in one look, with bounce 1 and size 8C
-sixteen : List Call
+abbrev sixteen : List Call
 sixteen = rows 0x0FFF 0x000F ∷ write 0x02 (1 ∷ 0x8C ∷ []) ∷ []
 
 -- a state like that after reset, with a mask and a bounce; unsound where the mask is above 0x0F
-settings : ℕ → ℕ → Module
+abbrev settings : ℕ → ℕ → Module
 settings mask bounce = withBounce (withMask fresh mask) bounce
 
 settings-typed : (mask bounce : ℕ) → bounce ≤ 255 → Typed (settings mask bounce)
-unfolding settings fresh forgotten
+unfolding fresh forgotten
 settings-typed mask bounce low =
     record {
       keys = refl;
@@ -125,7 +106,7 @@ record Told : Type 0 where
   silent : LossWrong silent sixteen
 
 told : Told
-unfolding LedgerWrong KeyWrong BytesWrong ProgressWrong LossWrong same rows pressed restarted sixteen after done happened wrotes gots fits fetched fetchedBy covers codesIn seen bytesOf calledBy changing asking outcome answer resetCall heldCall lineCall lookNumber writeNumber readNumber heldNumber lineNumber lookLines heldLines sampleLines accessLines byteFits sizesFit readLines writeLines high numberOf runAllowed addresses next registerAt allowed address _is_ sound keySound keysSound codesSound restUnused scan.strays scan.looked scan.contacts scan.noticed scan.changes scan.changesBelow scan.contactAt access.wrote access.readAll access.bytesRead bytes.written bytes.readOut bytes.byteOf queues.waiting queues.waits queues.put queues.putAll queues.oldest queues.shifted queues.taken picture.allRead picture.marked fresh state.restarted forgotten stepped looks opposite samples heldAfter contact.changes isKey keyAt rowOf colOf pressCode releaseCode code keyOf acceptable inSize keyIn sample every all allBelow among some bit without table sheet.bounce sheet.size sheet.history sheet.held sheet.changed sheet.change sheet.changesBelow sheet.changes sheet.waiting sheet.oldest sheet.byteOf sheet.ris sheet.flags sheet.revtint sheet.rsint sheet.rklint sheet.relint sheet.marks sheet.allRead sheet.cleared codeGot room arriving kept coming arrivals ledger.taken blankBytes stays nothing onlyFirst madeUp runsKept roomFor keysKept emptied pastState pastBytes hurried takenFirst called lookCall writeCall readCall readBuffer oldestLost putLate putAllLate single singleStays singleBlank wrong.unreported unreported lost weigh ris line mis carried ignoring handled quiet hushing hushed trusted settings second
+unfolding opened
 told =
     record {
       declining = refl;

@@ -10,19 +10,22 @@
 --    declined-alters-nothing    a number that isn't 0 leaves state and buffer as they came, and a question's answer is no
 --    astray-means               the row 9 for ours: some key out of the size changes
 -- Assumes nothing.
-use Prim.Native.Nat.{ℕ, zero, suc, _-_, _<_, _≤_}
+use Prim.Native.Nat.{ℕ, suc, _-_, _<_, _≤_}
 use native.Mathlib.Decide.{ℕ-discrete, decLe}
 use native.Mathlib.Omega.{arith}
+use native.Mathlib.Nat.{le-refl}
 use mathlib.Core.Path.{_≡_, refl, sym, ap, _∙_}
 use mathlib.Core.Logic.{_⊎_, inl, inr}
-use mathlib.Core.Bool.{Bool, true, false, cond, not, _&&_, _||_, and-true}
-use mathlib.Core.List.{List, [], _∷_}
+use mathlib.Core.Bool.{Bool, true, false, cond, not, _&&_, _||_}
+use mathlib.Core.List.{List}
 use borrow.Author.Tests.{ne-eqb, eqb-true}
 use lib.Dec.{eqb, leb}
-use lib.ListN.{length, getD}
+use lib.ListN.{length, getD, drop, drop-of-length-le}
+use lib.Seq.{drop-cons}
 use Rattle.words.specs.Words.{all, allBelow, bit}
-use Rattle.words.proofs.Laws.{true-false, and-left, and-right, all-first, all-rest, all-below}
+use Rattle.words.proofs.Laws.{true-false, all-below}
 use Rattle.words.proofs.Lists.{all-at}
+use Rattle.words.proofs.Places.{chain, all-places, fails-at}
 use Rattle.keys.specs.Keys.{isKey, acceptable, keyIn}
 use Rattle.keys.proofs.Laws.{key-yes, key-row, key-col}
 use Rattle.registers.specs.declared.Register.the-variants.{KBDBOUNCE, KBDSIZE, KBDRIS, KBDMIS, KBDIC, KBDMSK, KBDCODE, EVTCODE, RSTINTCLR, Unknown}
@@ -36,24 +39,13 @@ use Rattle.state.specs.Typed.{Typed}
 use Rattle.sound.specs.Sound.{sound}
 use Rattle.sound.proofs.Exactly.{sound-said, said-sound}
 use Rattle.scan.specs.Scan.{contactAt, strays}
-use Rattle.calls.specs.Calls.{lookLines, heldLines, lookNumber, writeNumber, readNumber, heldNumber, lineNumber, outcome, answer, resetCall, lookCall, writeCall, readCall, readBuffer, heldCall, lineCall}
+use Rattle.calls.specs.Calls.{lookLines, heldLines, lookNumber, writeNumber, readNumber, heldNumber, interruptNumber, outcome, answer, resetCall, lookCall, writeCall, readCall, readBuffer, heldCall, interruptCall}
 use Rattle.demands.specs.Machine.{Call, reset, look, write, read, held, interrupt, lent}
 use Rattle.demands.specs.Table.{First, place, Unsound, HighBits, NotAllowed, BadSize, NoKey, rules}
 use Rattle.demands.specs.Ours.{changing, asking, called, ours}
 use Rattle.demands.proofs.Numbers.{Decides, none, _then_, lines-first, refused, itself, decide-eq, decide-ne, decide-lt}
 
 -- ---- samples
--- a test that fails of a list fails at a place of it
-fails-at : (f : ℕ → Bool) (l : List ℕ) → all f l ≡ false → (k : ℕ) × ((k < length l) × (f (getD l k 0) ≡ false))
-unfolding all
-fails-at f [] e = true-false e
-fails-at f (x ∷ l) e = go (f x) refl (fails-at f l)
-  where
-    go : (b : Bool) → f x ≡ b → (all f l ≡ false → (k : ℕ) × ((k < length l) × (f (getD l k 0) ≡ false)))
-        → (k : ℕ) × ((k < suc (length l)) × (f (getD (x ∷ l) k 0) ≡ false))
-    go false g rest = (0, (omega arith, g))
-    go true g rest = let r = rest (rw g at e) in (suc (r .0), (omega (arith, r .1 .0), r .1 .1))
-
 one-of : (a b c : Bool) → not (a || b || c) ≡ false → (a ≡ true) ⊎ ((b ≡ true) ⊎ (c ≡ true))
 one-of true b c e = inl refl
 one-of false true c e = inr (inl refl)
@@ -72,38 +64,29 @@ none-of false false false e (inr (inr f)) = true-false (sym f)
 decide-high : (s : List ℕ) → Decides (not (all (λ x. not (high x)) s)) (HighBits s)
 unfolding high
 decide-high s =
-    refused (all (λ x. not (high x)) s)
-    (λ e. let r = fails-at (λ x. not (high x)) s e in (r .0, (r .1 .0, one-of (bit 13 (getD s (r .0) 0)) (bit 14 (getD s (r .0) 0)) (bit 15 (getD s (r .0) 0)) (r .1 .1))))
-    (λ e h. none-of (bit 13 (getD s (h .0) 0)) (bit 14 (getD s (h .0) 0)) (bit 15 (getD s (h .0) 0)) (all-at (λ x. not (high x)) 0 s e (h .0) (h .1 .0)) (h .1 .1))
+    let f : ℕ → Bool = λ x. not (high x) in
+    refused (all f s)
+    (λ e. let r = fails-at (λ k. f (getD s k 0)) (length s) (sym (all-places f 0 s) ∙ e) in (r .0, (r .1 .0, one-of (bit 13 (getD s (r .0) 0)) (bit 14 (getD s (r .0) 0)) (bit 15 (getD s (r .0) 0)) (r .1 .1))))
+    (λ e h. none-of (bit 13 (getD s (h .0) 0)) (bit 14 (getD s (h .0) 0)) (bit 15 (getD s (h .0) 0)) (all-at f 0 s e (h .0) (h .1 .0)) (h .1 .1))
 
 -- ---- runs of addresses
-place-next : (a k : ℕ) → place (next a) k ≡ next (place a k)
-unfolding place
-place-next a zero = refl
-place-next a (suc k) = ap next (place-next a k)
-
-run-fails : (f : ℕ → Bool) (a n : ℕ) → all f (addresses a n) ≡ false → (k : ℕ) × ((k < n) × (f (place a k) ≡ false))
+-- the run from place k on
+run-places : (f : ℕ → Bool) (a n : ℕ) → all f (addresses a n) ≡ allBelow (λ k. f (place a k)) n
 unfolding addresses all place
-run-fails f a zero e = true-false e
-run-fails f a (suc n) e = go (f a) refl (run-fails f (next a) n)
-  where
-    go : (b : Bool) → f a ≡ b → (all f (addresses (next a) n) ≡ false → (k : ℕ) × ((k < n) × (f (place (next a) k) ≡ false)))
-        → (k : ℕ) × ((k < suc n) × (f (place a k) ≡ false))
-    go false g rest = (0, (omega arith, g))
-    go true g rest = let r = rest (rw g at e) in (suc (r .0), (omega (arith, r .1 .0), ap f (sym (place-next a (r .0))) ∙ r .1 .1))
-
-run-at : (f : ℕ → Bool) (a n : ℕ) → all f (addresses a n) ≡ true → (k : ℕ) → k < n → f (place a k) ≡ true
-unfolding addresses place
-run-at f a zero e k h = absurd (omega arith)
-run-at f a (suc n) e zero h = all-first f a (addresses (next a) n) e
-run-at f a (suc n) e (suc k) h = ap f (sym (place-next a k)) ∙ run-at f (next a) n (all-rest f a (addresses (next a) n) e) k (omega arith)
+run-places f a n =
+    let whole : n ≡ n - 0 = omega arith in
+    ap (λ (m : ℕ). all f (addresses a m)) whole
+    ∙ chain (λ k. f (place a k)) (λ k. all f (addresses (place a k) (n - k))) n
+    (λ k h. let more : n - k ≡ suc (n - suc k) = omega arith in ap (λ (m : ℕ). all f (addresses (place a k) m)) more)
+    (let none : n - n ≡ 0 = omega arith in ap (λ (m : ℕ). all f (addresses (place a n) m)) none)
 
 -- "some address of the run is unknown, or can't be read or written as asked"
 decide-run : (way : Access) (a n : ℕ) → Decides (not (runAllowed way a n)) (NotAllowed way a n)
 unfolding runAllowed
 decide-run way a n =
-    let f : ℕ → Bool = λ b. allowed way (registerAt b) in
-    refused (runAllowed way a n) (run-fails f a n) (λ e h. true-false (sym (run-at f a n e (h .0) (h .1 .0)) ∙ h .1 .1))
+    let f : ℕ → Bool = λ k. allowed way (registerAt (place a k)) in
+    let e = run-places (λ b. allowed way (registerAt b)) a n in
+    refused (runAllowed way a n) (λ g. fails-at f n (sym e ∙ g)) (λ g h. true-false (sym (all-below f n (sym e ∙ g) (h .0) (h .1 .0)) ∙ h .1 .1))
 
 -- ---- bytes for KBDSIZE
 -- no other register counts as KBDSIZE
@@ -143,24 +126,24 @@ byte-fails a b e = go (eqb a 3) refl (sym (byte-fits a b) ∙ e)
 byte-bad : (a b : ℕ) → a ≡ 3 → acceptable b ≡ false → byteFits (registerAt a) b ≡ false
 byte-bad a b e f = byte-fits a b ∙ rw (e, f)
 
-sizes-fail : (a : ℕ) (bs : List ℕ) → sizesFit a bs ≡ false → BadSize a bs
-unfolding sizesFit place
-sizes-fail a [] e = true-false e
-sizes-fail a (b ∷ bs) e = go (byteFits (registerAt a) b) refl (sizes-fail (next a) bs)
-  where
-    go : (t : Bool) → byteFits (registerAt a) b ≡ t → (sizesFit (next a) bs ≡ false → BadSize (next a) bs) → BadSize a (b ∷ bs)
-    go false g rest = (0, (omega arith, byte-fails a b g))
-    go true g rest = let r = rest (rw g at e) in (suc (r .0), (omega (arith, r .1 .0), (sym (place-next a (r .0)) ∙ r .1 .1 .0, r .1 .1 .1)))
+-- the byte for place k of the run
+fitting-at : ℕ → List ℕ → ℕ → Bool
+fitting-at a bs k = byteFits (registerAt (place a k)) (getD bs k 0)
 
-sizes-at : (a : ℕ) (bs : List ℕ) → sizesFit a bs ≡ true → BadSize a bs → ⊥
-unfolding sizesFit place
-sizes-at a [] e (k, (h, bad)) = omega arith
-sizes-at a (b ∷ bs) e (zero, (h, bad)) = true-false (sym (and-left (byteFits (registerAt a) b) (sizesFit (next a) bs) e) ∙ byte-bad a b (bad .0) (bad .1))
-sizes-at a (b ∷ bs) e (suc k, (h, bad)) = sizes-at (next a) bs (and-right (byteFits (registerAt a) b) (sizesFit (next a) bs) e) (k, (omega arith, (place-next a k ∙ bad .0, bad .1)))
+sizes-places : (a : ℕ) (bs : List ℕ) → sizesFit a bs ≡ allBelow (fitting-at a bs) (length bs)
+unfolding sizesFit place fitting-at
+sizes-places a bs =
+    chain (fitting-at a bs) (λ k. sizesFit (place a k) (drop k bs)) (length bs)
+    (λ k h. ap (sizesFit (place a k)) (drop-cons bs k 0 h)) (ap (sizesFit (place a (length bs))) (drop-of-length-le bs (le-refl (length bs))))
 
 -- "a byte for KBDSIZE isn't acceptable"
 decide-sizes : (a : ℕ) (bs : List ℕ) → Decides (not (sizesFit a bs)) (BadSize a bs)
-decide-sizes a bs = refused (sizesFit a bs) (sizes-fail a bs) (sizes-at a bs)
+unfolding fitting-at
+decide-sizes a bs =
+    let e = sizes-places a bs in
+    refused (sizesFit a bs)
+    (λ g. let r = fails-at (fitting-at a bs) (length bs) (sym e ∙ g) in (r .0, (r .1 .0, byte-fails (place a (r .0)) (getD bs (r .0) 0) (r .1 .1))))
+    (λ g h. true-false (sym (all-below (fitting-at a bs) (length bs) (sym e ∙ g) (h .0) (h .1 .0)) ∙ byte-bad (place a (h .0)) (getD bs (h .0) 0) (h .1 .1 .0) (h .1 .1 .1)))
 
 -- ---- keys
 key-none : (row col : ℕ) → isKey row col ≡ false → NoKey row col
@@ -188,7 +171,7 @@ unsound-decided m t = refused (sound m) (λ e h. true-false (sym (said-sound m t
 module _ (m : Module) where
   -- "What it can't do it declines with a number from our list"
   pub numbers-exact : Typed m → (c : Call) → First (rules ours m c) (called m c .number)
-  unfolding called changing asking resetCall lookCall writeCall readCall heldCall lineCall outcome answer lookNumber writeNumber readNumber heldNumber lineNumber lookLines heldLines sampleLines readLines writeLines accessLines rules First
+  unfolding called changing asking resetCall lookCall writeCall readCall heldCall interruptCall outcome answer lookNumber writeNumber readNumber heldNumber interruptNumber lookLines heldLines sampleLines readLines writeLines accessLines rules First
   numbers-exact t reset = refl
   numbers-exact t (look s) = lines-first (unsound-decided m t then decide-ne (length s) 8 then decide-high s then itself (strays m s) then none)
   numbers-exact t (write a bs) =
@@ -202,24 +185,15 @@ module _ (m : Module) where
 
   -- "and a declined call alters neither the module nor the caller's buffer"; "for a question the answer no"
   pub declined-alters-nothing : (c : Call) → (called m c .number ≡ 0 → ⊥) → (called m c .next ≡ m) × ((called m c .buffer ≡ lent c) × (called m c .answer ≡ false))
-  unfolding called changing asking resetCall lookCall writeCall readCall heldCall lineCall outcome answer readBuffer lent
+  unfolding called changing asking resetCall lookCall writeCall readCall heldCall interruptCall outcome answer readBuffer lent
   declined-alters-nothing reset h = absurd (h refl)
   declined-alters-nothing (look s) h = (rw (ne-eqb (lookNumber m s) 0 h), (refl, refl))
   declined-alters-nothing (write a bs) h = (rw (ne-eqb (writeNumber m a bs) 0 h), (refl, refl))
   declined-alters-nothing (read a out) h = let d = ne-eqb (readNumber m a (length out)) 0 h in (rw d, (rw d, refl))
   declined-alters-nothing (held row col) h = (refl, (refl, rw (ne-eqb (heldNumber m row col) 0 h)))
-  declined-alters-nothing interrupt h = (refl, (refl, rw (ne-eqb (lineNumber m) 0 h)))
+  declined-alters-nothing interrupt h = (refl, (refl, rw (ne-eqb (interruptNumber m) 0 h)))
 
 -- ---- row 9, for ours
-below-fails-at : (f : ℕ → Bool) (n : ℕ) → allBelow f n ≡ false → (k : ℕ) × ((k < n) × (f k ≡ false))
-unfolding allBelow
-below-fails-at f zero e = true-false e
-below-fails-at f (suc n) e = go (f n) refl (below-fails-at f n)
-  where
-    go : (b : Bool) → f n ≡ b → (allBelow f n ≡ false → (k : ℕ) × ((k < n) × (f k ≡ false))) → (k : ℕ) × ((k < suc n) × (f k ≡ false))
-    go false g rest = (n, (omega arith, g))
-    go true g rest = let r = rest (sym (and-true (allBelow f n)) ∙ rw g at e) in (r .0, (omega (arith, r .1 .0), r .1 .1))
-
 -- neither in the size nor without a change
 out-changed : (a b : Bool) → (a || not b) ≡ false → (a ≡ false) × (b ≡ true)
 out-changed true b e = true-false e
@@ -232,5 +206,5 @@ unfolding strays
 astray-means m s =
     let f : ℕ → Bool = λ k. keyIn (m .size) k || not (contactAt m s k .changed) in
     refused (allBelow f 104)
-    (λ e. let r = below-fails-at f 104 e in (r .0, (r .1 .0, out-changed (keyIn (m .size) (r .0)) (contactAt m s (r .0) .changed) (r .1 .1))))
+    (λ e. let r = fails-at f 104 e in (r .0, (r .1 .0, out-changed (keyIn (m .size) (r .0)) (contactAt m s (r .0) .changed) (r .1 .1))))
     (λ e h. true-false (sym (all-below f 104 e (h .0) (h .1 .0)) ∙ rw (h .1 .1 .0, h .1 .1 .1)))

@@ -12,7 +12,7 @@ use Rattle.state.specs.Module.{fresh}
 use Rattle.scan.specs.Scan.{strays}
 use Rattle.calls.specs.declared.Done.{Done}
 use Rattle.calls.specs.declared.Answered.{Answered}
-use Rattle.calls.specs.Calls.{resetCall, lookCall, writeCall, readCall, readBuffer, heldCall, lineCall}
+use Rattle.calls.specs.Calls.{resetCall, lookCall, writeCall, readCall, readBuffer, heldCall, interruptCall}
 use Rattle.demands.specs.Machine.{Call, reset, look, write, read, held, interrupt, Gives, Machine}
 
 unfoldable pub changing : Done → List ℕ → Gives Module
@@ -27,7 +27,7 @@ called m (look s) = changing (lookCall m s) []
 called m (write a bs) = changing (writeCall m a bs) []
 called m (read a out) = changing (readCall m a (length out)) (readBuffer m a out)
 called m (held row col) = asking (heldCall m row col)
-called m interrupt = asking (lineCall m)
+called m interrupt = asking (interruptCall m)
 
 abbrev pub ours : Machine
 ours = record { State = Module; start = fresh; parts = λ m. m; astray = strays; does = called }

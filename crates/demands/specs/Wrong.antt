@@ -34,7 +34,7 @@ use Rattle.flags.specs.Flags.{line}
 use Rattle.scan.specs.Scan.{contactAt, changesBelow, changes, strays, looked}
 use Rattle.access.specs.Bytes.{byteOf, readOut}
 use Rattle.access.specs.Accesses.{wrote, readAll, bytesRead}
-use Rattle.calls.specs.Calls.{lookNumber, writeNumber, readNumber, heldNumber, lineNumber, outcome, answer, resetCall, heldCall}
+use Rattle.calls.specs.Calls.{lookNumber, writeNumber, readNumber, heldNumber, interruptNumber, outcome, answer, resetCall, heldCall}
 use Rattle.demands.specs.Machine.{Call, reset, look, write, read, held, interrupt, Gives, Machine, lent}
 use Rattle.demands.specs.Ours.{changing, asking, called}
 
@@ -62,7 +62,7 @@ calledBy e m (read a out) =
     let n = readNumber m a (length out) in
     changing (outcome m (e .read m a (length out)) n) (e .bytes m a (length out) if eqb n 0 else out)
 calledBy e m (held row col) = asking (heldCall m row col)
-calledBy e m interrupt = asking (answer m (e .line m) (lineNumber m))
+calledBy e m interrupt = asking (answer m (e .line m) (interruptNumber m))
 
 abbrev pub built : Effects → Machine
 built e = doing (calledBy e)
@@ -257,7 +257,7 @@ trusted m (read a out) =
     let n = readNumber fresh a (length out) in
     changing (outcome m (readAll m a (length out)) n) (bytesRead m a (length out) if eqb n 0 else out)
 trusted m (held row col) = asking (answer m (getD (m .held) (keyAt row col) false) (heldNumber fresh row col))
-trusted m interrupt = asking (answer m (line m) (lineNumber fresh))
+trusted m interrupt = asking (answer m (line m) (interruptNumber fresh))
 
 abbrev pub trusting : Machine
 trusting = doing trusted

@@ -1,6 +1,8 @@
 -- Laws of the flags.
 --
 --    four a b c d            four flags as the bits 3 to 0 of a byte
+--    weigh-times             a flag weighs its weight times, or not at all
+--    four-binary             four flags are the number with these bits
 --    four-bits               and back: Bits n a b c d says that the bits of the byte n are these
 --    weigh-most, four-most   the most that one flag and four can weigh
 --    ris-most, mis-most      "the rest 0": KBDRIS and KBDMIS are below 16
@@ -8,12 +10,14 @@
 --    mis-shows, mis-bits     the bits of KBDMIS are those of KBDRIS, but 0 where KBDMSK has the bit set
 --    line-porirq, line-mis   the line where PORIRQ is set, and where it isn't
 -- Assumes nothing.
-use Prim.Native.Nat.{ℕ, zero, suc, _+_, _<_, _≤_}
+use Prim.Native.Nat.{ℕ, zero, suc, _+_, _*_, _<_, _≤_}
 use native.Mathlib.Omega.{arith}
-use mathlib.Core.Path.{_≡_, refl, sym, ap, _∙_}
+use mathlib.Core.Path.{_≡_, sym, ap, _∙_}
 use mathlib.Core.Bool.{Bool, true, false, not, _||_}
+use mathlib.Core.List.{[], _∷_}
 use lib.Dec.{eqb}
-use Rattle.words.specs.Words.{bit, without}
+use Rattle.words.specs.Words.{_if_, _else_, bit, without}
+use Rattle.words.proofs.Bits.{binary, binary-bit}
 use Rattle.state.specs.declared.Module.{Module}
 use Rattle.state.specs.Queue.{waits}
 use Rattle.flags.specs.Flags.{weigh, ris, mis, line}
@@ -24,24 +28,19 @@ four a b c d = weigh a 8 + weigh b 4 + weigh c 2 + weigh d 1
 abbrev pub Bits : ℕ → Bool → Bool → Bool → Bool → Type 0
 Bits n a b c d = (bit 3 n ≡ a) × (bit 2 n ≡ b) × (bit 1 n ≡ c) × (bit 0 n ≡ d)
 
+weigh-times : (f : Bool) (w : ℕ) → weigh f w ≡ w * (1 if f else 0)
+unfolding weigh
+weigh-times true w = omega arith
+weigh-times false w = omega arith
+
+four-binary : (a b c d : Bool) → four a b c d ≡ binary (d ∷ c ∷ b ∷ a ∷ [])
+unfolding binary
+four-binary a b c d = omega (arith, weigh-times a 8, weigh-times b 4, weigh-times c 2, weigh-times d 1)
+
 pub four-bits : (a b c d : Bool) → Bits (four a b c d) a b c d
-unfolding weigh bit
-four-bits true true true true = (refl, refl, refl, refl)
-four-bits true true true false = (refl, refl, refl, refl)
-four-bits true true false true = (refl, refl, refl, refl)
-four-bits true true false false = (refl, refl, refl, refl)
-four-bits true false true true = (refl, refl, refl, refl)
-four-bits true false true false = (refl, refl, refl, refl)
-four-bits true false false true = (refl, refl, refl, refl)
-four-bits true false false false = (refl, refl, refl, refl)
-four-bits false true true true = (refl, refl, refl, refl)
-four-bits false true true false = (refl, refl, refl, refl)
-four-bits false true false true = (refl, refl, refl, refl)
-four-bits false true false false = (refl, refl, refl, refl)
-four-bits false false true true = (refl, refl, refl, refl)
-four-bits false false true false = (refl, refl, refl, refl)
-four-bits false false false true = (refl, refl, refl, refl)
-four-bits false false false false = (refl, refl, refl, refl)
+four-bits a b c d =
+    let l = d ∷ c ∷ b ∷ a ∷ [] in
+    rw (four-binary a b c d) (binary-bit l 3, binary-bit l 2, binary-bit l 1, binary-bit l 0)
 
 weigh-most : (f : Bool) (w : ℕ) → weigh f w ≤ w
 unfolding weigh

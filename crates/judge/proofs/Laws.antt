@@ -1,10 +1,12 @@
 -- Laws of what is judged by a call's arguments alone.
 --
 --    high-yes, high-no           bits 13 to 15, told by one comparison
---    fits-by                     what is asked of a byte for the register that is told
+--    fits-size, fits-other       what is asked of a byte for KBDSIZE, and of one for another register
 --    sizes-none, sizes-stop, sizes-go    no byte is left; one is not acceptable; one is, and the rest decides
+--    samples-decline, access-declines    no line gives the number of a call that is done
 --    eight-samples               a look whose samples are not declined has eight
 --    write-access, write-rest    a write is declined as an access, or else by its bytes alone
+--    key-there                   a row and a column that are not declined are those of a key
 -- Assumes nothing.
 use Prim.Native.Nat.{ℕ, _+_, _/_, _%_, _≤_, _<_}
 use native.Mathlib.Numerals.{add-one}
@@ -14,15 +16,23 @@ use mathlib.Core.Bool.{Bool, true, false, not, _||_}
 use mathlib.Core.List.{List, [], _∷_}
 use lib.ListN.{length, getD, drop, drop-of-length-le}
 use lib.Seq.{drop-cons}
-use lib.Dec.{eqb, ltb}
-use borrow.Author.Tests.{ne-eqb, eqb-true, eqb-false}
+use lib.Dec.{eqb}
+use borrow.Author.Tests.{ne-eqb, eqb-true, eqb-false, not-false}
+use types.Run.{OneOf, miss}
+use denote.Enum.Declared.{tagOf}
 use Rattle.words.specs.Words.{bit}
-use Rattle.numbers.specs.Numbers.{_gives_, numberOf}
-use Rattle.registers.specs.declared.Register.{Register}
+use Rattle.numbers.specs.Numbers.{Line, _gives_, numberOf, done, notEight, badSize, noKey}
+use Rattle.numbers.proofs.Laws.{declining, first-decides, rest-decides, line-false}
+use Rattle.keys.specs.Keys.{isKey, keyAt, acceptable}
+use Rattle.keys.proofs.Laws.{key-row, key-col, key-low}
+use Rattle.registers.specs.declared.Access.{Access}
 use Rattle.registers.specs.declared.Access.the-variants.{Write}
-use Rattle.registers.specs.Registers.{registerAt}
-use Rattle.registers.specs.Runs.{next, runAllowed}
-use Rattle.judge.specs.Lines.{high, sampleLines, accessLines, byteFits, sizesFit, writeLines}
+use Rattle.registers.specs.declared.Register.{Register}
+use Rattle.registers.specs.declared.Register.the-variants.{KBDBOUNCE, KBDSIZE, KBDRIS, KBDMIS, KBDIC, KBDMSK, KBDCODE, EVTCODE, RSTINTCLR, Unknown}
+use Rattle.registers.specs.Registers.{registerAt, _is_, address}
+use Rattle.registers.specs.Runs.{next}
+use Rattle.registers.proofs.Register as Registers
+use Rattle.judge.specs.Lines.{high, sampleLines, accessLines, byteFits, sizesFit, writeLines, keyLines}
 
 -- a number below twice a bit's weight, with that bit 0, is below the weight
 low15 : (x : ℕ) → x < 0x10000 → (x / 32768 % 2 ≡ 1 → ⊥) → x < 32768
@@ -50,8 +60,27 @@ module _ (x : ℕ) where
       go false false true ea eb ec = refl
       go false false false ea eb ec = absurd (omega (arith, low13 x (low14 x (low15 x l (eqb-false _ 1 ec)) (eqb-false _ 1 eb)) (eqb-false _ 1 ea)))
 
-pub fits-by : (b : ℕ) (r s : Register) → r ≡ s → byteFits s b ≡ byteFits r b
-fits-by b r s e = sym (ap (λ (k : Register). byteFits k b) e)
+-- the tags of all registers but KBDSIZE
+abbrev others : List ℕ
+others = 0 ∷ 2 ∷ 3 ∷ 4 ∷ 5 ∷ 6 ∷ 7 ∷ 8 ∷ 9 ∷ []
+
+module _ (b : ℕ) where
+  pub fits-size : (r : Register) → r ≡ KBDSIZE → byteFits r b ≡ acceptable b
+  unfolding byteFits _is_ address
+  fits-size r e = rw e
+
+  pub fits-other : (r : Register) → OneOf others (tagOf Registers.the-type r) → byteFits r b ≡ true
+  unfolding byteFits _is_ address
+  fits-other KBDBOUNCE h = refl
+  fits-other KBDSIZE h = absurd (miss others 1 tt h)
+  fits-other KBDRIS h = refl
+  fits-other KBDMIS h = refl
+  fits-other KBDIC h = refl
+  fits-other KBDMSK h = refl
+  fits-other (KBDCODE n) h = refl
+  fits-other EVTCODE h = refl
+  fits-other RSTINTCLR h = refl
+  fits-other Unknown h = refl
 
 module _ (a : ℕ) (bs : List ℕ) (i : ℕ) where
   pub sizes-none : length bs ≤ i → sizesFit a (drop i bs) ≡ true
@@ -70,35 +99,40 @@ module _ (a : ℕ) (bs : List ℕ) (i : ℕ) where
     unfolding sizesFit
     sizes-go e a′ en = rw (drop-cons bs i 0 h, fit-at, e, add-one i, en)
 
+-- no line of a look's samples or of an access gives the number of a call that is done
+pub samples-decline : (s : List ℕ) → declining (sampleLines s) ≡ true
+unfolding declining sampleLines
+samples-decline s = refl
+
+access-declines : (way : Access) (a n : ℕ) → declining (accessLines way a n) ≡ true
+unfolding declining accessLines
+access-declines way a n = refl
+
 -- a look that is not declined by its samples has eight
-pub eight-samples : (s : List ℕ) → numberOf (sampleLines s) ≡ 0 → length s ≡ 8
-unfolding numberOf sampleLines
-eight-samples s e = go (eqb (length s) 8) refl
-  where
-    go : (b : Bool) → eqb (length s) 8 ≡ b → length s ≡ 8
-    go true p = eqb-true (length s) 8 p
-    go false p = let f : _≡_ {A = ℕ} 1 0 = rw p at e in absurd (omega arith)
-
--- the lines of a write are those of an access, and then one for the bytes
-write-cases : (a b c d : Bool) → _≡_ {A = ℕ} (numberOf (a gives 3 ∷ b gives 4 ∷ c gives 5 ∷ [])) 0 → numberOf (a gives 3 ∷ b gives 4 ∷ c gives 5 ∷ d gives 6 ∷ []) ≡ numberOf (d gives 6 ∷ [])
-unfolding numberOf
-write-cases true b c d e = absurd (omega arith)
-write-cases false true c d e = absurd (omega arith)
-write-cases false false true d e = absurd (omega arith)
-write-cases false false false d e = refl
-
-write-early : (a b c d : Bool) → (_≡_ {A = ℕ} (numberOf (a gives 3 ∷ b gives 4 ∷ c gives 5 ∷ [])) 0 → ⊥) → numberOf (a gives 3 ∷ b gives 4 ∷ c gives 5 ∷ d gives 6 ∷ []) ≡ numberOf (a gives 3 ∷ b gives 4 ∷ c gives 5 ∷ [])
-unfolding numberOf
-write-early true b c d e = refl
-write-early false true c d e = refl
-write-early false false true d e = refl
-write-early false false false d e = absurd (e refl)
+pub eight-samples : (s : List ℕ) → numberOf (sampleLines s) ≡ done → length s ≡ 8
+unfolding sampleLines
+eight-samples s e =
+    let eight = line-false [] (not (eqb (length s) 8)) notEight _ (samples-decline s) e in
+    eqb-true (length s) 8 (not-false _ eight)
 
 module _ (a : ℕ) (bs : List ℕ) where
-  pub write-access : (numberOf (accessLines Write a (length bs)) ≡ 0 → ⊥) → numberOf (accessLines Write a (length bs)) ≡ numberOf (writeLines a bs)
-  unfolding writeLines accessLines
-  write-access h = sym (write-early (eqb (length bs) 0) (ltb 32 (length bs)) (not (runAllowed Write a (length bs))) (not (sizesFit a bs)) h)
+  abbrev first : List Line
+  first = accessLines Write a (length bs)
 
-  pub write-rest : numberOf (accessLines Write a (length bs)) ≡ 0 → numberOf (writeLines a bs) ≡ numberOf (not (sizesFit a bs) gives 6 ∷ [])
-  unfolding writeLines accessLines
-  write-rest h = write-cases (eqb (length bs) 0) (ltb 32 (length bs)) (not (runAllowed Write a (length bs))) (not (sizesFit a bs)) h
+  abbrev last : List Line
+  last = not (sizesFit a bs) gives badSize ∷ []
+
+  pub write-access : (numberOf first ≡ done → ⊥) → numberOf first ≡ numberOf (writeLines a bs)
+  unfolding writeLines
+  write-access h = sym (first-decides first last h)
+
+  pub write-rest : numberOf first ≡ done → numberOf (writeLines a bs) ≡ numberOf last
+  unfolding writeLines
+  write-rest h = rest-decides first last (access-declines Write a (length bs)) h
+
+-- a row and a column that are not declined are those of a key
+pub key-there : (row col : ℕ) → numberOf (keyLines row col) ≡ done → keyAt row col < 104
+unfolding keyLines declining
+key-there row col e =
+    let there = not-false (isKey row col) (line-false [] (not (isKey row col)) noKey [] refl e) in
+    key-low row col (key-row row col there) (key-col row col there)

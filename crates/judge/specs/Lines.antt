@@ -7,14 +7,15 @@
 --    sizesFit a bs     every byte for KBDSIZE is acceptable
 --    readLines a n     all lines of a read
 --    writeLines a bs   all lines of a write of the bytes bs
+--    keyLines row col  7, for a question about the key in this row and column
 use Prim.Native.Nat.{ℕ}
 use mathlib.Core.Bool.{Bool, true, not, _&&_, _||_}
 use mathlib.Core.List.{List, [], _∷_, _++_}
 use lib.ListN.{length}
 use lib.Dec.{eqb, ltb}
 use Rattle.words.specs.Words.{_if_, _else_, all, bit}
-use Rattle.numbers.specs.Numbers.{Line, _gives_, notEight, highBits, noBytes, tooMany, notAllowed, badSize}
-use Rattle.keys.specs.Keys.{acceptable}
+use Rattle.numbers.specs.Numbers.{Line, _gives_, notEight, highBits, noBytes, tooMany, notAllowed, badSize, noKey}
+use Rattle.keys.specs.Keys.{isKey, acceptable}
 use Rattle.registers.specs.declared.Access.{Access}
 use Rattle.registers.specs.declared.Access.the-variants.{Read, Write}
 use Rattle.registers.specs.declared.Register.{Register}
@@ -47,3 +48,7 @@ readLines a n = accessLines Read a n
 -- "a byte for KBDSIZE isn't acceptable"
 unfoldable pub writeLines : ℕ → List ℕ → List Line
 writeLines a bs = accessLines Write a (length bs) ++ (not (sizesFit a bs) gives badSize ∷ [])
+
+-- "row above 7 or column above 12"
+unfoldable pub keyLines : ℕ → ℕ → List Line
+keyLines row col = not (isKey row col) gives noKey ∷ []

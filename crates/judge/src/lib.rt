@@ -1,4 +1,6 @@
 // What is declined by a call's arguments alone, before any state is looked at.
+use keys::Col;
+use keys::Row;
 use registers::Access;
 use registers::Register;
 ghost use mathlib.Core.Path.{_≡_};
@@ -6,7 +8,7 @@ ghost use mathlib.Core.Bool.{not};
 ghost use lib.ListN.{length};
 ghost use Rattle.words.specs.Words.{all};
 ghost use Rattle.numbers.specs.Numbers.{numberOf};
-ghost use Rattle.judge.specs.Lines.{high, sampleLines, accessLines, byteFits, sizesFit, readLines, writeLines};
+ghost use Rattle.judge.specs.Lines.{high, sampleLines, accessLines, byteFits, sizesFit, readLines, writeLines, keyLines};
 
 // Has no sample bit 13, 14 or 15 set?
 fn are_narrow(samples: &[u16]) -> bool
@@ -56,16 +58,8 @@ fn is_fit(register: Register, byte: u8) -> bool
     ensures { λ r. ⌜ r ≡ byteFits register byte ⌝ }
 {
     match register {
-        Register::KBDBOUNCE => true,
         Register::KBDSIZE => keys::is_acceptable(byte),
-        Register::KBDRIS => true,
-        Register::KBDMIS => true,
-        Register::KBDIC => true,
-        Register::KBDMSK => true,
-        Register::KBDCODE(_) => true,
-        Register::EVTCODE => true,
-        Register::RSTINTCLR => true,
-        Register::Unknown => true,
+        _ => true,
     }
 }
 
@@ -83,6 +77,16 @@ fn are_fit(first: u16, bytes: &[u8]) -> bool
         i = i + 1;
     }
     true
+}
+
+// The number of a key's row and column: 0 or 7.
+pub fn of_key(row: Row, col: Col) -> u8
+    ensures { λ r. ⌜ r ≡ numberOf (keyLines (row .0) (col .0)) ⌝ }
+{
+    if !keys::is_key(row, col) {
+        return numbers::NO_KEY;
+    }
+    numbers::DONE
 }
 
 // The number of a read: 0, 3, 4 or 5.

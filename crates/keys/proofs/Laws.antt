@@ -9,6 +9,7 @@
 --    key-back, back-row, back-col    the key number, and back
 --    press-is, release-is         the codes of a key
 --    code-key                     the key of a change's code is the key that changed
+--    code-place                   the code of a change, by the key's row and column
 --    code-low                     a press is at most 0x7F; code-byte: every code is a byte
 --    sample-out                   out of the size a sample counts as open
 --    rows-most                    an acceptable size has at most 8 rows
@@ -23,7 +24,7 @@ use mathlib.Core.List.{List}
 use borrow.Author.Tests.{le-leb, lt-leb, lt-ltb, le-ltb, leb-true, ne-eqb}
 use lib.Dec.{leb, ltb}
 use Rattle.words.proofs.Laws.{and-left, and-right}
-use Rattle.keys.specs.Keys.{isKey, keyAt, rowOf, colOf, pressCode, releaseCode, code, keyOf, acceptable, inSize, keyIn, sample}
+use Rattle.keys.specs.Keys.{isKey, keyAt, rowOf, colOf, pressCode, releaseCode, codeAt, code, keyOf, acceptable, inSize, keyIn, sample}
 
 module _ (row col : ℕ) where
   pub key-yes : row ≤ 7 → col ≤ 12 → isKey row col ≡ true
@@ -128,6 +129,10 @@ module _ (row col : ℕ) (h : row ≤ 7) (l : col ≤ 12) where
   pub press-is : pressCode row col ≡ 16 * row + col
   unfolding pressCode
   press-is = rw (key-yes row col h l)
+
+  pub code-place : (closed : Bool) → code (13 * row + col) closed ≡ codeAt row col closed
+  unfolding code
+  code-place closed = rw (place-row, place-col)
 
   pub release-is : releaseCode row col ≡ 16 * row + col + 128
   unfolding releaseCode

@@ -3,7 +3,7 @@
 --    isKey row col                     there is such a key
 --    keyAt row col, rowOf k, colOf k   a key's number, by row, then column, and back
 --    pressCode, releaseCode            a key's codes
---    code k closed                     the code of a change of key k: it closed, or it opened
+--    codeAt row col closed             the code of a change of the key there: it closed, or it opened; code k closed: of key k
 --    isCode b                          the byte b is a press or release code
 --    keyOf b                           the key that the code b speaks of
 --    acceptable size                   KBDSIZE may be this
@@ -37,8 +37,11 @@ pressCode row col = 16 * row + col if isKey row col else 0x7F
 unfoldable pub releaseCode : ℕ → ℕ → ℕ
 releaseCode row col = 16 * row + col + 128 if isKey row col else 0x7F
 
+abbrev pub codeAt : ℕ → ℕ → Bool → ℕ
+codeAt row col closed = pressCode row col if closed else releaseCode row col
+
 unfoldable pub code : ℕ → Bool → ℕ
-code k closed = pressCode (rowOf k) (colOf k) if closed else releaseCode (rowOf k) (colOf k)
+code k closed = codeAt (rowOf k) (colOf k) closed
 
 -- the low four bits are the column, the next three the row
 unfoldable pub isCode : ℕ → Bool

@@ -1,6 +1,7 @@
 // Keys: rows and columns numbered apart, key numbers, codes, and the keypad size.
 ghost use mathlib.Core.Path.{_≡_};
-ghost use Rattle.keys.specs.Keys.{isKey, keyAt, rowOf, colOf, pressCode, releaseCode, code, isCode, keyOf, acceptable, inSize, keyIn};
+ghost use mathlib.Core.Bool.{true};
+ghost use Rattle.keys.specs.Keys.{isKey, keyAt, rowOf, colOf, pressCode, releaseCode, codeAt, code, isCode, keyOf, acceptable, inSize, keyIn};
 
 // A row, 0 to 7: the data sheet's KEYROW.
 #[repr(C)]
@@ -82,16 +83,21 @@ pub fn release_code(row: Row, col: Col) -> u8
     press + 128
 }
 
-// The code of a change of a key: it closed or opened. NO_CODE where there is no such key.
-pub fn change_code(key: usize, closed: bool) -> u8
-    ensures { λ r. ⌜ r ≡ code key closed ⌝ }
+// The code of a change of the key there: its contact closed, or it opened. NO_CODE if there is no such key.
+pub fn code_at(row: Row, col: Col, closed: bool) -> u8
+    ensures { λ r. ⌜ r ≡ codeAt (row .0) (col .0) closed ⌝ }
 {
-    let row = row_of(key);
-    let col = col_of(key);
     if closed {
         return press_code(row, col);
     }
     release_code(row, col)
+}
+
+// The code of a key's change.
+pub fn change_code(key: usize, closed: bool) -> u8
+    ensures { λ r. ⌜ r ≡ code key closed ⌝ }
+{
+    code_at(row_of(key), col_of(key), closed)
 }
 
 // Is a byte the press or release code of a key?
@@ -146,4 +152,12 @@ pub fn is_key_in(size: u8, key: usize) -> bool
     ensures { λ r. ⌜ r ≡ keyIn size key ⌝ }
 {
     is_in_size(size, row_of(key), col_of(key))
+}
+
+// Is a byte a press or release code of a key in the size? Its low four bits are the column, the next three the row.
+pub fn is_code_in(size: u8, byte: u8) -> bool
+    requires { ⌜ acceptable size ≡ true ⌝ }
+    ensures { λ r. ⌜ r ≡ keyIn size (keyOf byte) ⌝ }
+{
+    is_in_size(size, Row(byte % 128 / 16), Col(byte % 16))
 }

@@ -1,13 +1,17 @@
 -- The number of a list of lines.
 --
---    given, only          `numberOf` is the table's sentence, both ways
---    stops, goes, ends    the first line decides; it is passed; none is left
+--    given, only                   `numberOf` is the table's sentence, both ways
+--    stops, goes, ends             the first line decides; it is passed; none is left
+--    declining l                   no line of the list l gives the number of a call that is done
+--    first-decides, rest-decides   of two lists the first declines the call; it passes the call on, and the rest decides
+--    line-false                    a call that is done has passed each of its lines
 -- Assumes nothing.
 use Prim.Native.Nat.{ℕ}
 use mathlib.Core.Path.{_≡_, refl}
 use mathlib.Core.Logic.{inl, inr}
-use mathlib.Core.Bool.{Bool, true, false, true≢false, false≢true}
-use mathlib.Core.List.{List, [], _∷_}
+use mathlib.Core.Bool.{Bool, true, false, not, _&&_, true≢false, false≢true, and-eq-true-iff}
+use mathlib.Core.List.{List, [], _∷_, _++_}
+use lib.Dec.{eqb}
 use Rattle.numbers.specs.Numbers.{Line, _gives_, numberOf, Given, done}
 
 -- the number is given
@@ -38,3 +42,40 @@ module _ (b : Bool) (n : ℕ) (l : List Line) where
 pub ends : numberOf [] ≡ done
 unfolding numberOf
 ends = refl
+
+-- no line of the list gives the number of a call that is done
+unfoldable pub declining : List Line → Bool
+declining [] = true
+declining ((b gives n) ∷ l) = not (eqb n done) && declining l
+
+module _ (b : Bool) (n : ℕ) (l : List Line) (d : declining ((b gives n) ∷ l) ≡ true) where
+  rest-declining : declining l ≡ true
+  unfolding declining
+  rest-declining = and-eq-true-iff (not (eqb n done)) (declining l) .0 d .1
+
+  never-done : {A : Type 0} → n ≡ done → A
+  unfolding declining
+  never-done e = absurd (false≢true (rw e at d))
+
+-- of two lists the first declines the call
+pub first-decides : (k l : List Line) → (numberOf k ≡ done → ⊥) → numberOf (k ++ l) ≡ numberOf k
+unfolding numberOf
+first-decides [] l h = absurd (h refl)
+first-decides ((true gives n) ∷ k) l h = refl
+first-decides ((false gives n) ∷ k) l h = first-decides k l h
+
+-- it passes the call on, and the rest decides
+pub rest-decides : (k l : List Line) → declining k ≡ true → numberOf k ≡ done → numberOf (k ++ l) ≡ numberOf l
+unfolding numberOf
+rest-decides [] l d e = refl
+rest-decides ((true gives n) ∷ k) l d e = never-done true n k d e
+rest-decides ((false gives n) ∷ k) l d e = rest-decides k l (rest-declining false n k d) e
+
+-- a call that is done has passed each of its lines
+pub line-false : (k : List Line) (b : Bool) (n : ℕ) (l : List Line)
+    → declining (k ++ (b gives n ∷ l)) ≡ true → numberOf (k ++ (b gives n ∷ l)) ≡ done → b ≡ false
+unfolding numberOf
+line-false [] true n l d e = never-done true n l d e
+line-false [] false n l d e = refl
+line-false ((true gives j) ∷ k) b n l d e = never-done true j (k ++ (b gives n ∷ l)) d e
+line-false ((false gives j) ∷ k) b n l d e = line-false k b n l (rest-declining false j (k ++ (b gives n ∷ l)) d) e

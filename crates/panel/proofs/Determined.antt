@@ -1,7 +1,7 @@
 -- DETERMINED: two outcomes that the contract of an exported function allows for the same arguments are equal.
 --
 --    two-facts    what follows from two propositions follows from the assertions of both
---    look-determined, write-determined, read-determined, held-determined, line-determined, reset-determined
+--    look-determined, write-determined, read-determined, held-determined, interrupt-determined, reset-determined
 --
 -- An outcome is the result, x or y, and what everything lent to be altered holds at exit, e or f. Each theorem is on the clauses that the toolchain makes of the source
 -- (proofs/Source.antt says what they are), and reads: where the `ensures` of both outcomes holds, they are the same.
@@ -57,10 +57,10 @@ module _ {M : Type 1} (𝓤 : URA M) (H : Heap 𝓤) (A : Atoms 𝓤) (at-mem : 
       (fact 𝓤 ((x ≡ y) × (now (e .1 .1 .1 .0) ≡ now (f .1 .1 .1 .0))))
   held-determined κs a x y e f = two-facts 𝓤 _ _ _ (λ p q. (p .0 ∙ sym (q .0), p .1 ∙ sym (q .1)))
 
-  pub line-determined : (κs : Lfts 2) (a : Args lines.signature κs) (x y : Res lines.signature κs) (e f : AtExit lines.ended κs)
+  pub interrupt-determined : (κs : Lfts 2) (a : Args lines.signature κs) (x y : Res lines.signature κs) (e f : AtExit lines.ended κs)
       → ent 𝓤 (conj 𝓤 (lines.clauses 𝓤 H A at-mem run κs a .ensures tt x e) (lines.clauses 𝓤 H A at-mem run κs a .ensures tt y f))
       (fact 𝓤 ((x ≡ y) × (now (e .1 .0) ≡ now (f .1 .0))))
-  line-determined κs a x y e f = two-facts 𝓤 _ _ _ (λ p q. (p .0 ∙ sym (q .0), p .1 ∙ sym (q .1)))
+  interrupt-determined κs a x y e f = two-facts 𝓤 _ _ _ (λ p q. (p .0 ∙ sym (q .0), p .1 ∙ sym (q .1)))
 
 pub reset-determined : (κs : Lfts 0) (a : Dens κs reset-kinds.ps) (x y : Done) (e f : AtExit (endedOf 0 reset-kinds.ps reset-kinds.r) κs) → resets.Post κs a x e → resets.Post κs a y f → x ≡ y
 reset-determined κs a x y e f p q = p ∙ sym q

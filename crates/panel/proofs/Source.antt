@@ -1,6 +1,6 @@
 -- THE EXPORTED FUNCTIONS ARE THE SOURCE: what the toolchain makes of the contracts in src/lib.rt is what specs/Lent.antt says, and for reset what the call by value gives.
 --
---    look-source, write-source, read-source, held-source, line-source, reset-source
+--    look-source, write-source, read-source, held-source, interrupt-source, reset-source
 --
 -- `clauses` is the toolchain's own reading of a function's `ensures` and `requires` lines, and the function is proved to meet it. a are the arguments, x is the result,
 -- e what was lent, at exit; `fact` makes an assertion of a proposition. Reset is lent nothing, and its Post is a proposition itself.
@@ -20,7 +20,7 @@ use denote.Triple.Clauses.{AtExit}
 use borrow.Fn.Kinds.{Dens, endedOf}
 use Rattle.calls.specs.declared.Done.{Done}
 use Rattle.calls.specs.Calls.{resetCall}
-use Rattle.panel.specs.Lent.{LookLent, WriteLent, ReadLent, HeldLent, LineLent}
+use Rattle.panel.specs.Lent.{LookLent, WriteLent, ReadLent, HeldLent, InterruptLent}
 use Rattle.panel.proofs.panel_reset_value.Kinds as reset-kinds
 use Rattle.panel.proofs.panel_reset_value.Reads as resets
 use Rattle.panel.proofs.panel_look as looks
@@ -46,9 +46,9 @@ module _ {M : Type 1} (𝓤 : URA M) (H : Heap 𝓤) (A : Atoms 𝓤) (at-mem : 
       → helds.clauses 𝓤 H A at-mem run κs a .ensures tt x e ≡ fact 𝓤 (HeldLent (now (a .0)) (a .1 .0 .0) (a .1 .1 .0 .0) x (now (e .1 .1 .1 .0)))
   held-source κs a x e = refl
 
-  pub line-source : (κs : Lfts 2) (a : Args lines.signature κs) (x : Res lines.signature κs) (e : AtExit lines.ended κs)
-      → lines.clauses 𝓤 H A at-mem run κs a .ensures tt x e ≡ fact 𝓤 (LineLent (now (a .0)) x (now (e .1 .0)))
-  line-source κs a x e = refl
+  pub interrupt-source : (κs : Lfts 2) (a : Args lines.signature κs) (x : Res lines.signature κs) (e : AtExit lines.ended κs)
+      → lines.clauses 𝓤 H A at-mem run κs a .ensures tt x e ≡ fact 𝓤 (InterruptLent (now (a .0)) x (now (e .1 .0)))
+  interrupt-source κs a x e = refl
 
 pub reset-source : (κs : Lfts 0) (a : Dens κs reset-kinds.ps) (x : Done) (e : AtExit (endedOf 0 reset-kinds.ps reset-kinds.r) κs) → resets.Post κs a x e → x ≡ resetCall
 reset-source κs a x e p = p

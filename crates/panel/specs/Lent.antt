@@ -4,7 +4,7 @@
 --    WriteLent m a bs number after          a write of the bytes bs at the address a
 --    ReadLent m a out number after bytes    a read at the address a into the buffer out, which then holds these bytes
 --    HeldLent m row col number answer       is the key at this row and column held? m is lent to be looked at only
---    LineLent m number answer               is the interrupt line asserted? m is lent to be looked at only
+--    InterruptLent m number answer               is the interrupt line asserted? m is lent to be looked at only
 --
 -- The contracts in src/ are these five lines, and proofs/Determined.antt says that each allows one outcome only.
 use Prim.Native.Nat.{ℕ}
@@ -13,7 +13,7 @@ use mathlib.Core.Bool.{Bool}
 use mathlib.Core.List.{List}
 use lib.ListN.{length}
 use Rattle.state.specs.declared.Module.{Module}
-use Rattle.calls.specs.Calls.{lookCall, writeCall, readCall, readBuffer, heldCall, lineCall}
+use Rattle.calls.specs.Calls.{lookCall, writeCall, readCall, readBuffer, heldCall, interruptCall}
 
 abbrev pub LookLent : Module → List ℕ → ℕ → Module → Type 0
 LookLent m s number after = (number ≡ lookCall m s .number) × (after ≡ lookCall m s .after)
@@ -28,5 +28,5 @@ ReadLent m a out number after bytes =
 abbrev pub HeldLent : Module → ℕ → ℕ → ℕ → Bool → Type 0
 HeldLent m row col number answer = (number ≡ heldCall m row col .number) × (answer ≡ heldCall m row col .yes)
 
-abbrev pub LineLent : Module → ℕ → Bool → Type 0
-LineLent m number answer = (number ≡ lineCall m .number) × (answer ≡ lineCall m .yes)
+abbrev pub InterruptLent : Module → ℕ → Bool → Type 0
+InterruptLent m number answer = (number ≡ interruptCall m .number) × (answer ≡ interruptCall m .yes)

@@ -5,7 +5,7 @@ use keys::Row;
 use state::Module;
 ghost use mathlib.Core.Path.{_≡_};
 ghost use Rattle.calls.specs.Calls.{resetCall};
-ghost use Rattle.panel.specs.Lent.{LookLent, WriteLent, ReadLent, HeldLent, LineLent};
+ghost use Rattle.panel.specs.Lent.{LookLent, WriteLent, ReadLent, HeldLent, InterruptLent};
 
 // One look; the module is altered where it is.
 #[no_mangle]
@@ -58,7 +58,7 @@ pub extern "C" fn panel_held(m: &Module, row: Row, col: Col, yes: &mut bool) -> 
 // Is the interrupt line asserted? The module is lent to be looked at only.
 #[no_mangle]
 pub extern "C" fn panel_interrupt(m: &Module, yes: &mut bool) -> u8
-    ensures { λ r. ⌜ LineLent (now (m .entry)) r (now (yes .exit)) ⌝ }
+    ensures { λ r. ⌜ InterruptLent (now (m .entry)) r (now (yes .exit)) ⌝ }
 {
     let r = calls::interrupt(*m);
     *yes = r.yes;

@@ -12,9 +12,8 @@ use mathlib.Core.Bool.{Bool, true, false}
 use mathlib.Core.List.{List, [], _∷_, _++_, append-nil}
 use borrow.Author.Tests.{le-leb}
 use lib.ListN.{length, getD, take, drop, replicate, length-take, length-drop, length-replicate, getD-replicate, take-append-drop}
-use lib.Seq.{getD-take, getD-drop}
+use lib.Seq.{getD-take, getD-drop, ext-getD}
 use Rattle.words.specs.Words.{among, table, bit, without}
-use Rattle.words.proofs.Lists.{by-places}
 use Rattle.words.proofs.Tables.{by-table}
 use Rattle.keys.specs.Keys.{keyIn}
 use Rattle.registers.specs.declared.Register.the-variants.{KBDMSK, RSTINTCLR}
@@ -125,7 +124,7 @@ module _ (m : Module) (y : Typed m) (s : Said m) where
       let a : length un ≡ 15 - n = length-replicate {A = ℕ} (15 - n) 0x7F in
       let b : length (drop n q) ≡ 15 - n = length-drop n q ∙ ap (λ (x : ℕ). x - n) long in
       let rest : un ≡ drop n q =
-      by-places 0 un (drop n q) (a ∙ sym b) (λ i g.
+      ext-getD 0 un (drop n q) (a ∙ sym b) (λ i g.
       getD-replicate {A = ℕ} (15 - n) i 0x7F 0 (omega arith) ∙ sym (getD-drop n q i 0 ∙ s .rest (n + i) (omega arith) (omega arith))) in
       ap (λ (x : ℕ). w ++ replicate (15 - x) 0x7F) w-long ∙ ap (λ (x : List ℕ). take n q ++ x) rest ∙ take-append-drop n q
 

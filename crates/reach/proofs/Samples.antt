@@ -5,16 +5,17 @@
 --    eight          they are eight
 --    narrow, u16s   they have no bit above 12, and are of the type u16
 -- Assumes nothing.
-use Prim.Native.Nat.{ℕ, zero, suc, _+_, _*_, _/_, _%_, _^_, _<_, _≤_}
+use Prim.Native.Nat.{ℕ, zero, suc, _+_, _*_, _^_, _<_, _≤_}
 use native.Mathlib.Omega.{arith}
-use native.Mathlib.Nat.{pow-suc, div-div-eq-div-mul, mul-comm}
+use native.Mathlib.Nat.{pow-suc}
 use mathlib.Core.Path.{_≡_, refl, sym, ap, _∙_}
 use mathlib.Core.Bool.{Bool, true, false, not, cond}
 use mathlib.Core.List.{List, [], _∷_}
-use borrow.Author.Tests.{eq-eqb, ne-eqb, lt-ltb}
-use lib.Dec.{eqb, ltb}
+use borrow.Author.Tests.{lt-ltb}
+use lib.Dec.{ltb}
 use lib.ListN.{length, getD}
 use Rattle.words.specs.Words.{bit, table, all}
+use Rattle.words.proofs.Bits.{bit-none, bit-first, bit-later}
 use Rattle.words.proofs.Tables.{table-at, table-length}
 use Rattle.words.proofs.Lists.{by-test, all-append, all-one, all-none}
 use Rattle.keys.specs.Keys.{rowOf, colOf, keyIn, sample}
@@ -26,41 +27,19 @@ unfoldable pub wordFrom : (ℕ → Bool) → ℕ → ℕ → ℕ
 wordFrom f c zero = 0
 wordFrom f c (suc n) = cond (f c) 1 0 + 2 * wordFrom f (suc c) n
 
-bit-first : (b : Bool) (w : ℕ) → bit 0 (cond b 1 0 + 2 * w) ≡ b
-unfolding bit
-bit-first true w = eq-eqb ((1 + 2 * w) / 2 ^ 0 % 2) 1 (omega arith)
-bit-first false w = ne-eqb ((0 + 2 * w) / 2 ^ 0 % 2) 1 (λ e. omega arith)
-
-half : (b : Bool) (w : ℕ) → (cond b 1 0 + 2 * w) / 2 ≡ w
-half true w = omega arith
-half false w = omega arith
-
-bit-next : (j : ℕ) (b : Bool) (w : ℕ) → bit (suc j) (cond b 1 0 + 2 * w) ≡ bit j w
-unfolding bit
-bit-next j b w =
-    let x = cond b 1 0 + 2 * w in
-    let e : x / 2 ^ suc j ≡ w / 2 ^ j =
-    ap (λ (n : ℕ). x / n) (pow-suc 2 j ∙ mul-comm (2 ^ j) 2) ∙ sym (div-div-eq-div-mul x 2 (2 ^ j)) ∙ ap (λ (n : ℕ). n / 2 ^ j) (half b w) in
-    ap (λ (n : ℕ). eqb (n % 2) 1) e
-
 bit-word : (f : ℕ → Bool) (j c n : ℕ) → j < n → bit j (wordFrom f c n) ≡ f (c + j)
 unfolding wordFrom
 bit-word f j c zero h = absurd (omega arith)
-bit-word f zero c (suc n) h = let e : c + 0 ≡ c = omega arith in bit-first (f c) (wordFrom f (suc c) n) ∙ ap f (sym e)
+bit-word f zero c (suc n) h = let e : c + 0 ≡ c = omega arith in bit-first (wordFrom f (suc c) n) (f c) ∙ ap f (sym e)
 bit-word f (suc j) c (suc n) h =
     let e : suc c + j ≡ c + suc j = omega arith in
-    bit-next j (f c) (wordFrom f (suc c) n) ∙ bit-word f j (suc c) n (omega arith) ∙ ap f e
-
-bit-none : (j : ℕ) → bit j 0 ≡ false
-unfolding bit
-bit-none zero = refl
-bit-none (suc j) = bit-next j false 0 ∙ bit-none j
+    bit-later (wordFrom f (suc c) n) (f c) j ∙ bit-word f j (suc c) n (omega arith) ∙ ap f e
 
 bit-above : (f : ℕ → Bool) (j c n : ℕ) → n ≤ j → bit j (wordFrom f c n) ≡ false
 unfolding wordFrom
 bit-above f j c zero h = bit-none j
 bit-above f zero c (suc n) h = absurd (omega arith)
-bit-above f (suc j) c (suc n) h = bit-next j (f c) (wordFrom f (suc c) n) ∙ bit-above f j (suc c) n (omega arith)
+bit-above f (suc j) c (suc n) h = bit-later (wordFrom f (suc c) n) (f c) j ∙ bit-above f j (suc c) n (omega arith)
 
 unfoldable pub wordOf : (ℕ → Bool) → ℕ → ℕ
 wordOf f row = wordFrom (λ c. f (13 * row + c)) 0 13

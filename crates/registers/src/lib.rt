@@ -1,5 +1,6 @@
 // The registers: which stands at an address, what may be read and written, and the addresses of an access.
 ghost use mathlib.Core.Path.{_≡_};
+ghost use lib.Dec.{eqb};
 ghost use Rattle.registers.specs.Registers.{registerAt, canRead, canWrite, allowed};
 ghost use Rattle.registers.specs.Runs.{next, runAllowed};
 
@@ -87,11 +88,18 @@ pub fn is_allowed(access: Access, register: Register) -> bool
     }
 }
 
+// Does an access stay at this address, byte after byte? At EVTCODE it does.
+pub fn stays(address: u16) -> bool
+    ensures { λ r. ⌜ r ≡ eqb address 0x10 ⌝ }
+{
+    address == 0x10
+}
+
 // The address of an access's next byte. 0x100 stands for no address, and none follows it.
 pub fn next_address(address: u16) -> u16
     ensures { λ r. ⌜ r ≡ next address ⌝ }
 {
-    if address == 0x10 {
+    if stays(address) {
         return address;
     }
     if 0x100 <= address {

@@ -5,7 +5,7 @@ use state::Module;
 ghost use mathlib.Core.Path.{_≡_};
 ghost use mathlib.Core.Bool.{false, not, _||_};
 ghost use mathlib.Core.List.{List};
-ghost use Prim.Native.Nat.{ℕ, _<_};
+ghost use Prim.Native.Nat.{ℕ, _<_, _+_, _*_};
 ghost use lib.ListN.{length};
 ghost use Rattle.words.specs.Words.{allBelow};
 ghost use Rattle.keys.specs.Keys.{inSize};
@@ -16,14 +16,15 @@ ghost use Rattle.scan.specs.Walk as walk;
 ghost use Rattle.scan.specs.Walk.{parts};
 
 // Is a key closed, by its row's sample? Out of the size it counts as open.
-fn is_closed(sample: u16, size: u8, row: u8, col: u8) -> bool
-    requires { ⌜ col < 13 ⌝ }
-    ensures { λ r. ⌜ r ≡ walk.counted sample size row col ⌝ }
+fn is_closed(sample: u16, size: u8, row: Row, col: Col) -> bool
+    requires { ⌜ col .0 < 13 ⌝ }
+    ensures { λ r. ⌜ r ≡ walk.counted sample size (row .0) (col .0) ⌝ }
 {
-    if !keys::is_in_size(size, Row(row), Col(col)) {
+    let c = col.0;
+    if !keys::is_in_size(size, row, col) {
         return false;
     }
-    (sample >> col) % 2 == 1
+    (sample >> c) % 2 == 1
 }
 
 // What a look does to one key, to the queue, and to whether a key has changed.
@@ -34,19 +35,23 @@ fn look_at(
     count: &mut u8,
     relint: &mut bool,
     any: &mut bool,
-    key: usize,
+    row: Row,
+    col: Col,
     closed: bool,
     bounce: u8,
 )
-    requires { ⌜ key < 104 ⌝ }
-    ensures { λ _. ⌜ parts (now (held .exit)) (now (run .exit)) (queue (now (places .exit)) (now (count .exit)) (now (relint .exit))) (now (any .exit)) ≡ walk.atKey bounce key closed (parts (now (held .entry)) (now (run .entry)) (queue (now (places .entry)) (now (count .entry)) (now (relint .entry))) (now (any .entry))) ⌝ }
+    requires { ⌜ (row .0 < 8) × (col .0 < 13) ⌝ }
+    ensures { λ _. ⌜ parts (now (held .exit)) (now (run .exit)) (queue (now (places .exit)) (now (count .exit)) (now (relint .exit))) (now (any .exit)) ≡ walk.atKey bounce (13 * row .0 + col .0) closed (parts (now (held .entry)) (now (run .entry)) (queue (now (places .entry)) (now (count .entry)) (now (relint .entry))) (now (any .entry))) ⌝ }
 {
+    let r = row.0;
+    let c = col.0;
+    let key = 13 * (r as usize) + (c as usize);
     let x = contact::step(held[key], run[key], closed, bounce);
     held[key] = x.held;
     run[key] = x.run;
     let changed = x.changed;
     if changed {
-        let code = keys::change_code(key, closed);
+        let code = keys::code_at(row, col, closed);
         state::queue::put(places, count, relint, code);
         *any = true;
         return;
@@ -71,9 +76,19 @@ fn look_at_row(
 {
     let mut col: u8 = 0;
     while col < 13 {
-        let key = 13 * (row as usize) + (col as usize);
-        let closed = is_closed(sample, size, row, col);
-        look_at(held, run, places, count, relint, any, key, closed, bounce);
+        let closed = is_closed(sample, size, Row(row), Col(col));
+        look_at(
+            held,
+            run,
+            places,
+            count,
+            relint,
+            any,
+            Row(row),
+            Col(col),
+            closed,
+            bounce,
+        );
         col = col + 1;
     }
 }
@@ -140,13 +155,13 @@ fn first_out(size: u8, row: u8) -> u8
 }
 
 // Is a key out of the size, and does it change with an open sample? Only a held key does.
-fn is_stray(held: bool, run: u8, size: u8, bounce: u8, row: u8, col: u8) -> bool
-    ensures { λ r. ⌜ r ≡ not (inSize size row col || not (stepped held run false bounce .changed)) ⌝ }
+fn is_stray(held: bool, run: u8, size: u8, bounce: u8, row: Row, col: Col) -> bool
+    ensures { λ r. ⌜ r ≡ not (inSize size (row .0) (col .0) || not (stepped held run false bounce .changed)) ⌝ }
 {
     if !held {
         return false;
     }
-    if keys::is_in_size(size, Row(row), Col(col)) {
+    if keys::is_in_size(size, row, col) {
         return false;
     }
     let x = contact::step(held, run, false, bounce);
@@ -167,7 +182,7 @@ fn row_has_strays<'a>(
     let mut col = first_out(size, row);
     while col < 13 {
         let key = 13 * (row as usize) + (col as usize);
-        if is_stray(held[key], run[key], size, bounce, row, col) {
+        if is_stray(held[key], run[key], size, bounce, Row(row), Col(col)) {
             return true;
         }
         col = col + 1;

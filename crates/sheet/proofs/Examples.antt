@@ -12,70 +12,66 @@ use mathlib.Core.Path.{_≡_, refl}
 use mathlib.Core.Bool.{true, false}
 use mathlib.Core.List.{List, [], _∷_, _++_}
 use lib.ListN.{replicate, drop}
-use Rattle.words.specs.Words.{all, among, some, bit, without}
-use Rattle.keys.specs.Keys.{isKey, rowOf, colOf, pressCode, releaseCode, code, inSize, keyIn, sample}
-use Rattle.contact.specs.Contact as contact
-use Rattle.contact.specs.Contact.{looks, opposite, samples, heldAfter}
 use Rattle.registers.specs.declared.Register.{Register}
 use Rattle.registers.specs.declared.Register.the-variants.{KBDBOUNCE, KBDSIZE, KBDRIS, KBDMIS, KBDIC, KBDMSK, KBDCODE, EVTCODE, RSTINTCLR}
-use Rattle.registers.specs.Registers.{_is_, address, pictured}
-use Rattle.sheet.specs.Sheet.{Happening, Past, looked, wrote, got, cleared, bounce, size, mask, history, held, changed, change, changesBelow, changes, waiting, relint, oldest, allRead, marks, rsint, rklint, flags, revtint, ris, mis, porirq, line, heldBelow, nth, picture, byteOf}
-use Rattle.sheet.specs.Ledger.{codeGot, taken, room, arriving, kept, lost, coming, arrivals}
+use Rattle.sheet.specs.Sheet.{Happening, Past, looked, wrote, got, held, waiting, line, byteOf}
+use Rattle.sheet.proofs.Opened.{opened}
+use Rattle.sheet.specs.Ledger.{taken, lost, arrivals}
 
-reads : List Register → Past → List ℕ
+abbrev reads : List Register → Past → List ℕ
 reads [] past = []
 reads (r ∷ rs) past = byteOf r past ∷ reads rs (got r ∷ past)
 
-four : List Register
+abbrev four : List Register
 four = KBDCODE 0 ∷ KBDCODE 1 ∷ KBDCODE 2 ∷ KBDCODE 3 ∷ []
 
 -- a look with these samples of rows 0, 1, 3 and 7, the other rows open
-look : ℕ → ℕ → ℕ → ℕ → Happening
+abbrev look : ℕ → ℕ → ℕ → ℕ → Happening
 look row0 row1 row3 row7 = looked (row0 ∷ row1 ∷ 0 ∷ row3 ∷ 0 ∷ 0 ∷ 0 ∷ row7 ∷ [])
 
 -- a look with row 1 column 1 closed
-key11 : Happening
+abbrev key11 : Happening
 key11 = look 0 0x0002 0 0
 
 -- "Size 8C, bounce 1"
-settings : Past
+abbrev settings : Past
 settings = wrote KBDBOUNCE 1 ∷ wrote KBDSIZE 0x8C ∷ []
 
 -- "P6 Bounce 5, three closed looks, bounce 2, a fourth closed look: 11."
-P6 : Type 0
+abbrev P6 : Type 0
 P6 =
     let three = key11 ∷ key11 ∷ key11 ∷ wrote KBDBOUNCE 5 ∷ [] in
     (reads (EVTCODE ∷ []) three ≡ 0x7F ∷ []) × (reads (EVTCODE ∷ []) (key11 ∷ wrote KBDBOUNCE 2 ∷ three) ≡ 0x11 ∷ [])
 
 -- "P7 Size 8C, bounce 1, SF of row 7 closed, then open: 7C, FC, 7F."
-P7 : Type 0
+abbrev P7 : Type 0
 P7 = reads (replicate 3 EVTCODE) (look 0 0 0 0 ∷ look 0 0 0 0x1000 ∷ settings) ≡ 0x7C ∷ 0xFC ∷ 0x7F ∷ []
 
 -- "P8 Size 8C, bounce 1, row 3 column 5 and row 0 column 11 in one look: EVTCODE 0B 35 7F; picture 8B 35 7F 7F."
-P8 : Type 0
+abbrev P8 : Type 0
 P8 =
     let past = look 0x0800 0 0x0020 0 ∷ settings in
     (reads (replicate 3 EVTCODE) past ≡ 0x0B ∷ 0x35 ∷ 0x7F ∷ []) × (reads four past ≡ 0x8B ∷ 0x35 ∷ 0x7F ∷ 0x7F ∷ [])
 
 -- "all 12 matrix keys of row 0 and columns 0 to 3 of row 1"
-sixteen : Past
+abbrev sixteen : Past
 sixteen = look 0x0FFF 0x000F 0 0 ∷ settings
 
 -- "P10 .. fifteen codes ending in 12; before any fetch KBDRIS is 0D and KBDMIS is 0C." "The key counts as changed either way."
-P10 : Type 0
+abbrev P10 : Type 0
 P10 =
     (reads (replicate 16 EVTCODE) sixteen ≡ 0x00 ∷ 0x01 ∷ 0x02 ∷ 0x03 ∷ 0x04 ∷ 0x05 ∷ 0x06 ∷ 0x07 ∷ 0x08 ∷ 0x09 ∷ 0x0A ∷ 0x0B ∷ 0x10 ∷ 0x11 ∷ 0x12 ∷ 0x7F ∷ [])
     × (reads (KBDRIS ∷ KBDMIS ∷ []) sixteen ≡ 0x0D ∷ 0x0C ∷ [])
     × (held 16 sixteen ≡ true)
 
 -- "less only those that arrived when 15 were waiting"; "Room freed by reading is used again."
-Losses : Type 0
+abbrev Losses : Type 0
 Losses =
     let more = look 0x0FFF 0x001F 0 0 ∷ got EVTCODE ∷ sixteen in
     (lost (arrivals sixteen) ≡ 0x13 ∷ []) × (lost (arrivals more) ≡ 0x13 ∷ []) × (taken more ≡ 0x00 ∷ []) × (drop 14 (waiting more) ≡ 0x14 ∷ [])
 
 -- "P12 Row 1 column 1 held, then size 22 written: EVTCODE 7F; the contact still closed gives 11 again after D looks."
-P12 : Type 0
+abbrev P12 : Type 0
 P12 =
     let again = wrote KBDSIZE 0x22 ∷ key11 ∷ key11 ∷ key11 ∷ [] in
     (reads (EVTCODE ∷ []) again ≡ 0x7F ∷ [])
@@ -83,11 +79,11 @@ P12 =
     × (reads (EVTCODE ∷ []) (key11 ∷ key11 ∷ key11 ∷ again) ≡ 0x11 ∷ [])
 
 -- row 0 column 0 closed, then open
-twice : Past
+abbrev twice : Past
 twice = look 0 0 0 0 ∷ look 1 0 0 0 ∷ settings
 
 -- "if RSINT is already set, set RKLINT; set RSINT; forget which picture registers were read"
-Changes : Type 0
+abbrev Changes : Type 0
 Changes =
     (reads (KBDRIS ∷ KBDMIS ∷ []) (look 1 0 0 0 ∷ settings) ≡ 0x05 ∷ 0x04 ∷ [])
     × (reads (KBDRIS ∷ KBDMIS ∷ []) twice ≡ 0x07 ∷ 0x04 ∷ [])
@@ -96,7 +92,7 @@ Changes =
 
 -- "Once all four have been read since they were last forgotten, RSINT is cleared (RKLINT stays)"; "REVTINT .. KBDIC can't clear it";
 -- "bit 0 clears RSINT and RKLINT; bit 1 clears RELINT; other bits ignored"; "bit 0 clears PORIRQ; other bits ignored"
-Clearing : Type 0
+abbrev Clearing : Type 0
 Clearing =
     (reads (four ++ KBDRIS ∷ []) twice ≡ 0x7F ∷ 0x7F ∷ 0x7F ∷ 0x7F ∷ 0x06 ∷ [])
     × (reads (KBDRIS ∷ []) (wrote KBDIC 0xFD ∷ twice) ≡ 0x04 ∷ [])
@@ -109,7 +105,7 @@ Clearing =
 
 -- "A restart by KBDSIZE opens all keys, empties their sample history and the queue, clears RSINT, RKLINT and RELINT,
 -- and forgets which picture registers were read; KBDBOUNCE, KBDMSK and PORIRQ stay."
-Restarts : Type 0
+abbrev Restarts : Type 0
 Restarts =
     (reads (KBDRIS ∷ EVTCODE ∷ four) (wrote KBDSIZE 0x8C ∷ sixteen) ≡ 0 ∷ 0x7F ∷ 0x7F ∷ 0x7F ∷ 0x7F ∷ 0x7F ∷ [])
     × (reads (KBDBOUNCE ∷ KBDMSK ∷ []) (wrote KBDSIZE 0x8C ∷ wrote KBDMSK 5 ∷ sixteen) ≡ 1 ∷ 5 ∷ [])
@@ -117,6 +113,6 @@ Restarts =
     × (line (wrote KBDSIZE 0x22 ∷ wrote RSTINTCLR 0x01 ∷ sixteen) ≡ false)
 
 examples-right : P6 × P7 × P8 × P10 × Losses × P12 × Changes × Clearing × Restarts
-unfolding P6 P7 P8 P10 Losses P12 Changes Clearing Restarts sixteen twice settings key11 look four reads lost kept arrivals coming arriving room taken codeGot byteOf picture nth heldBelow line porirq mis ris revtint flags rklint rsint marks allRead oldest relint waiting changes changesBelow change changed held history mask size bounce cleared heldAfter samples contact.changes looks opposite sample keyIn inSize code pressCode releaseCode isKey rowOf colOf all among some bit without _is_ address pictured
+unfolding opened
 examples-right =
     ((refl, refl), refl, (refl, refl), (refl, refl, refl), (refl, refl, refl, refl), (refl, refl, refl), (refl, refl, refl, refl), (refl, refl, refl, refl, refl, refl, refl, refl), (refl, refl, refl, refl))

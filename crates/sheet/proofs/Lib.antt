@@ -5,3 +5,4 @@ pub mod Replay
 pub mod Loss
 pub mod Sizes
 pub mod Examples
+pub mod Opened

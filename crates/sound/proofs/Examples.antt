@@ -8,53 +8,52 @@ use mathlib.Core.Path.{_≡_, refl}
 use mathlib.Core.Bool.{Bool, true, false, Bool·beq}
 use mathlib.Core.List.{List, [], _∷_, _++_}
 use lib.ListN.{length, set, replicate}
-use Rattle.words.specs.Words.{every, all, allBelow}
-use Rattle.keys.specs.Keys.{isKey, keyAt, rowOf, colOf, keyOf, acceptable, inSize, keyIn}
+use Rattle.words.specs.Words.{all}
+use Rattle.keys.specs.Keys.{keyAt}
 use Rattle.state.specs.declared.Module.{Module}
-use Rattle.state.specs.Module.{fresh, restarted, forgotten, queue, withKeys, withQueue, withBounce, withMask, withRklint, withRelint, withSeen}
-use Rattle.state.specs.Queue.{waiting}
-use Rattle.picture.specs.Picture.{allRead}
+use Rattle.state.specs.Module.{fresh, restarted, queue, withKeys, withQueue, withBounce, withMask, withRklint, withRelint, withSeen}
 use Rattle.sound.specs.Sound as is
+use Rattle.sound.proofs.Opened.{opened}
 
 record Entry : Type 0 where
   state : Module
   expected : Bool
 
 infix 2 _is_
-_is_ : Module → Bool → Entry
+abbrev _is_ : Module → Bool → Entry
 m is b = record { state = m; expected = b }
 
-sound : Bool
+abbrev sound : Bool
 sound = true
 
-unsound : Bool
+abbrev unsound : Bool
 unsound = false
 
 -- the state after reset, but KBDSIZE is this
-sized : ℕ → Module
+abbrev sized : ℕ → Module
 sized size = restarted fresh size
 
 -- .. the key of this row and column is held
-holding : ℕ → ℕ → Module
+abbrev holding : ℕ → ℕ → Module
 holding row col = withKeys fresh (set (fresh .held) (keyAt row col) true) (fresh .run)
 
 -- .. the key of this row and column has this run
-running : ℕ → ℕ → ℕ → Module
+abbrev running : ℕ → ℕ → ℕ → Module
 running row col n = withKeys fresh (fresh .held) (set (fresh .run) (keyAt row col) n)
 
 -- .. so many codes wait, and the places hold these codes from the first on, then 0x7F
-counting : ℕ → List ℕ → Module
+abbrev counting : ℕ → List ℕ → Module
 counting n codes = withQueue fresh (queue (codes ++ replicate (15 - length codes) 0x7F) n false)
 
 -- .. just these codes wait
-waits : List ℕ → Module
+abbrev waits : List ℕ → Module
 waits codes = counting (length codes) codes
 
 -- .. code 00 waits, and this place holds this byte
-behind : ℕ → ℕ → Module
+abbrev behind : ℕ → ℕ → Module
 behind place byte = withQueue fresh (queue (set (waits (0x00 ∷ []) .queue) place byte) 1 false)
 
-examples : List Entry
+abbrev examples : List Entry
 examples =
     (fresh is sound)
     -- "KBDSIZE is acceptable"
@@ -106,11 +105,9 @@ examples =
     ∷ (withRklint fresh true is sound)
     ∷ []
 
-right : Entry → Bool
+abbrev right : Entry → Bool
 right e = Bool·beq (is.sound (e .state)) (e .expected)
 
 examples-right : (length examples ≡ 40) × (all right examples ≡ true)
-unfolding examples right _is_ sound unsound sized holding running counting waits behind
-    is.sound is.keySound is.keysSound is.codesSound is.restUnused
-    every all allBelow acceptable isKey keyAt rowOf colOf keyOf inSize keyIn fresh restarted forgotten waiting allRead
+unfolding opened
 examples-right = (refl, refl)

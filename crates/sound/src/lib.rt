@@ -7,7 +7,7 @@ ghost use mathlib.Core.Bool.{true, false, not, _&&_};
 ghost use Prim.Native.Nat.{_<_};
 ghost use lib.Dec.{eqb};
 ghost use Rattle.words.specs.Words.{allBelow};
-ghost use Rattle.keys.specs.Keys.{acceptable, inSize, keyIn, keyOf};
+ghost use Rattle.keys.specs.Keys.{acceptable, inSize};
 ghost use Rattle.state.specs.Module.{queue};
 ghost use Rattle.sound.specs.Sound as is;
 
@@ -22,8 +22,8 @@ fn at_rest(held: bool, run: u8) -> bool
 }
 
 // What is asked of one key. Most are at rest, and need no look at the size.
-fn key_sound(size: u8, row: u8, col: u8, held: bool, run: u8) -> bool
-    ensures { λ r. ⌜ r ≡ is.contactSound (inSize size row col) held run ⌝ }
+fn key_sound(size: u8, row: Row, col: Col, held: bool, run: u8) -> bool
+    ensures { λ r. ⌜ r ≡ is.contactSound (inSize size (row .0) (col .0)) held run ⌝ }
 {
     if 254 < run {
         return false;
@@ -31,7 +31,7 @@ fn key_sound(size: u8, row: u8, col: u8, held: bool, run: u8) -> bool
     if at_rest(held, run) {
         return true;
     }
-    keys::is_in_size(size, Row(row), Col(col))
+    keys::is_in_size(size, row, col)
 }
 
 // What is asked of the keys of a row.
@@ -42,7 +42,7 @@ fn row_sound<'a>(size: u8, row: u8, held: &'a [bool; 104], run: &'a [u8; 104]) -
     let mut col: u8 = 0;
     while col < 13 {
         let key = 13 * (row as usize) + (col as usize);
-        if !key_sound(size, row, col, held[key], run[key]) {
+        if !key_sound(size, Row(row), Col(col), held[key], run[key]) {
             return false;
         }
         col = col + 1;
@@ -64,14 +64,6 @@ fn keys_sound<'a>(size: u8, held: &'a [bool; 104], run: &'a [u8; 104]) -> bool
     true
 }
 
-// What is asked of a code that waits. Its low four bits are the column, the next three the row.
-fn code_sound(size: u8, code: u8) -> bool
-    requires { ⌜ acceptable size ≡ true ⌝ }
-    ensures { λ r. ⌜ r ≡ keyIn size (keyOf code) ⌝ }
-{
-    keys::is_in_size(size, Row(code % 128 / 16), Col(code % 16))
-}
-
 // What is asked of the codes that wait.
 fn codes_sound(size: u8, places: &[u8; 15], count: u8) -> bool
     requires { ⌜ acceptable size ≡ true ⌝ }
@@ -84,7 +76,7 @@ fn codes_sound(size: u8, places: &[u8; 15], count: u8) -> bool
         if count as usize <= i {
             return true;
         }
-        if !code_sound(size, bytes[i]) {
+        if !keys::is_code_in(size, bytes[i]) {
             return false;
         }
         i = i + 1;

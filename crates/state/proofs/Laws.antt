@@ -28,7 +28,8 @@ by-elements (x ∷ l) zero e = absurd (omega arith)
 by-elements (x ∷ l) (suc n) e = ap (λ (r : List ℕ). x ∷ r) (by-elements l n (omega arith))
 
 pub shift-fifteen : (q : List ℕ) → length q ≡ 15
-    → (getD q 1 0 ∷ getD q 2 0 ∷ getD q 3 0 ∷ getD q 4 0 ∷ getD q 5 0 ∷ getD q 6 0 ∷ getD q 7 0 ∷ getD q 8 0 ∷ getD q 9 0 ∷ getD q 10 0 ∷ getD q 11 0 ∷ getD q 12 0 ∷ getD q 13 0 ∷ getD q 14 0 ∷ 0x7F ∷ []) ≡ shifted q
+    → (getD q 1 0 ∷ getD q 2 0 ∷ getD q 3 0 ∷ getD q 4 0 ∷ getD q 5 0 ∷ getD q 6 0 ∷ getD q 7 0
+    ∷ getD q 8 0 ∷ getD q 9 0 ∷ getD q 10 0 ∷ getD q 11 0 ∷ getD q 12 0 ∷ getD q 13 0 ∷ getD q 14 0 ∷ 0x7F ∷ []) ≡ shifted q
 unfolding shifted byElements
 shift-fifteen [] e = absurd (omega arith)
 shift-fifteen (x ∷ q) e = ap (λ (l : List ℕ). l ++ (0x7F ∷ [])) (sym (by-elements q 14 (omega arith)))

@@ -1,11 +1,14 @@
 -- The module state: after reset, after a restart, and with a part of it changed.
 --
---    fresh               the state after reset
---    anew f m size       the state f, but for what a restart keeps of m, and the size
---    restarted m size    the state after an accepted write of KBDSIZE
---    forgotten           no picture register is marked as read
---    Queue, queue p n r, queueOf m    the queue's part of the state
---    withKeys m h r, withQueue m q, ..    the state m, with these parts for its own
+--    fresh                          the state after reset
+--    forgotten                      no picture register is marked as read
+--    Keys, Queue, Settings, Flags   the four parts of the state
+--    keys h r, queue p n r, settings b s m, flags s k p l    a part, of its fields
+--    keysOf m, queueOf m, ..        a part of the state m
+--    made k q s f                   the state of these parts
+--    anew f m size                  the state f, but for what a restart keeps of m, and the size
+--    restarted m size               the state after an accepted write of KBDSIZE
+--    withKeys m h r, withQueue m q, ..    the state m, with these for its own
 use Prim.Native.Nat.{ℕ}
 use mathlib.Core.Bool.{Bool, true, false}
 use mathlib.Core.List.{List}
@@ -33,23 +36,74 @@ fresh =
       seen = forgotten;
     }
 
--- the state f, but for what a restart keeps of m, and the size
-abbrev pub anew : Module → Module → ℕ → Module
-anew f m size =
+-- how each key is held, and its run
+pub record Keys : Type 0 where
+  pub held : List Bool
+  pub run : List ℕ
+
+-- the queue's 15 places, how many of them wait, and whether a code was dropped
+pub record Queue : Type 0 where
+  pub places : List ℕ
+  pub count : ℕ
+  pub relint : Bool
+
+-- KBDBOUNCE, KBDSIZE and KBDMSK
+pub record Settings : Type 0 where
+  pub bounce : ℕ
+  pub size : ℕ
+  pub mask : ℕ
+
+-- the flags but for RELINT, and which picture registers were read
+pub record Flags : Type 0 where
+  pub rsint : Bool
+  pub rklint : Bool
+  pub porirq : Bool
+  pub seen : List Bool
+
+abbrev pub keys : List Bool → List ℕ → Keys
+keys held run = record { held = held; run = run }
+
+abbrev pub queue : List ℕ → ℕ → Bool → Queue
+queue places count relint = record { places = places; count = count; relint = relint }
+
+abbrev pub settings : ℕ → ℕ → ℕ → Settings
+settings bounce size mask = record { bounce = bounce; size = size; mask = mask }
+
+abbrev pub flags : Bool → Bool → Bool → List Bool → Flags
+flags rsint rklint porirq seen = record { rsint = rsint; rklint = rklint; porirq = porirq; seen = seen }
+
+abbrev pub keysOf : Module → Keys
+keysOf m = keys (m .held) (m .run)
+
+abbrev pub queueOf : Module → Queue
+queueOf m = queue (m .queue) (m .count) (m .relint)
+
+abbrev pub settingsOf : Module → Settings
+settingsOf m = settings (m .bounce) (m .size) (m .mask)
+
+abbrev pub flagsOf : Module → Flags
+flagsOf m = flags (m .rsint) (m .rklint) (m .porirq) (m .seen)
+
+abbrev pub made : Keys → Queue → Settings → Flags → Module
+made k q s f =
     record {
-      held = f .held;
-      run = f .run;
-      queue = f .queue;
-      count = f .count;
-      bounce = m .bounce;
-      size = size;
-      mask = m .mask;
+      held = k .held;
+      run = k .run;
+      queue = q .places;
+      count = q .count;
+      bounce = s .bounce;
+      size = s .size;
+      mask = s .mask;
       rsint = f .rsint;
       rklint = f .rklint;
-      relint = f .relint;
-      porirq = m .porirq;
+      relint = q .relint;
+      porirq = f .porirq;
       seen = f .seen;
     }
+
+-- the state f, but for what a restart keeps of m, and the size
+abbrev pub anew : Module → Module → ℕ → Module
+anew f m size = made (keysOf f) (queueOf f) (settings (m .bounce) size (m .mask)) (flags (f .rsint) (f .rklint) (m .porirq) (f .seen))
 
 -- "A restart by KBDSIZE opens all keys, empties their sample history and the queue, clears RSINT, RKLINT and RELINT,
 -- and forgets which picture registers were read; KBDBOUNCE, KBDMSK and PORIRQ stay."
@@ -57,40 +111,34 @@ unfoldable pub restarted : Module → ℕ → Module
 restarted m size = anew fresh m size
 
 abbrev pub withKeys : Module → List Bool → List ℕ → Module
-withKeys m held run = record { held = held; run = run; queue = m .queue; count = m .count; bounce = m .bounce; size = m .size; mask = m .mask; rsint = m .rsint; rklint = m .rklint; relint = m .relint; porirq = m .porirq; seen = m .seen }
-
--- the queue's part of the state: its 15 places, how many of them wait, and whether a code was dropped
-pub record Queue : Type 0 where
-  pub places : List ℕ
-  pub count : ℕ
-  pub relint : Bool
-
-abbrev pub queue : List ℕ → ℕ → Bool → Queue
-queue places count relint = record { places = places; count = count; relint = relint }
-
-abbrev pub queueOf : Module → Queue
-queueOf m = queue (m .queue) (m .count) (m .relint)
+withKeys m held run = made (keys held run) (queueOf m) (settingsOf m) (flagsOf m)
 
 abbrev pub withQueue : Module → Queue → Module
-withQueue m q = record { held = m .held; run = m .run; queue = q .places; count = q .count; bounce = m .bounce; size = m .size; mask = m .mask; rsint = m .rsint; rklint = m .rklint; relint = q .relint; porirq = m .porirq; seen = m .seen }
+withQueue m q = made (keysOf m) q (settingsOf m) (flagsOf m)
+
+abbrev pub withSettings : Module → Settings → Module
+withSettings m s = made (keysOf m) (queueOf m) s (flagsOf m)
+
+abbrev pub withFlags : Module → Flags → Module
+withFlags m f = made (keysOf m) (queueOf m) (settingsOf m) f
 
 abbrev pub withBounce : Module → ℕ → Module
-withBounce m bounce = record { held = m .held; run = m .run; queue = m .queue; count = m .count; bounce = bounce; size = m .size; mask = m .mask; rsint = m .rsint; rklint = m .rklint; relint = m .relint; porirq = m .porirq; seen = m .seen }
+withBounce m bounce = withSettings m (settings bounce (m .size) (m .mask))
 
 abbrev pub withMask : Module → ℕ → Module
-withMask m mask = record { held = m .held; run = m .run; queue = m .queue; count = m .count; bounce = m .bounce; size = m .size; mask = mask; rsint = m .rsint; rklint = m .rklint; relint = m .relint; porirq = m .porirq; seen = m .seen }
+withMask m mask = withSettings m (settings (m .bounce) (m .size) mask)
 
 abbrev pub withRsint : Module → Bool → Module
-withRsint m rsint = record { held = m .held; run = m .run; queue = m .queue; count = m .count; bounce = m .bounce; size = m .size; mask = m .mask; rsint = rsint; rklint = m .rklint; relint = m .relint; porirq = m .porirq; seen = m .seen }
+withRsint m rsint = withFlags m (flags rsint (m .rklint) (m .porirq) (m .seen))
 
 abbrev pub withRklint : Module → Bool → Module
-withRklint m rklint = record { held = m .held; run = m .run; queue = m .queue; count = m .count; bounce = m .bounce; size = m .size; mask = m .mask; rsint = m .rsint; rklint = rklint; relint = m .relint; porirq = m .porirq; seen = m .seen }
+withRklint m rklint = withFlags m (flags (m .rsint) rklint (m .porirq) (m .seen))
 
 abbrev pub withRelint : Module → Bool → Module
-withRelint m relint = record { held = m .held; run = m .run; queue = m .queue; count = m .count; bounce = m .bounce; size = m .size; mask = m .mask; rsint = m .rsint; rklint = m .rklint; relint = relint; porirq = m .porirq; seen = m .seen }
+withRelint m relint = withQueue m (queue (m .queue) (m .count) relint)
 
 abbrev pub withPorirq : Module → Bool → Module
-withPorirq m porirq = record { held = m .held; run = m .run; queue = m .queue; count = m .count; bounce = m .bounce; size = m .size; mask = m .mask; rsint = m .rsint; rklint = m .rklint; relint = m .relint; porirq = porirq; seen = m .seen }
+withPorirq m porirq = withFlags m (flags (m .rsint) (m .rklint) porirq (m .seen))
 
 abbrev pub withSeen : Module → List Bool → Module
-withSeen m seen = record { held = m .held; run = m .run; queue = m .queue; count = m .count; bounce = m .bounce; size = m .size; mask = m .mask; rsint = m .rsint; rklint = m .rklint; relint = m .relint; porirq = m .porirq; seen = seen }
+withSeen m seen = withFlags m (flags (m .rsint) (m .rklint) (m .porirq) seen)

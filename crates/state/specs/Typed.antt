@@ -1,4 +1,5 @@
--- What the types of the struct's fields say of a module. In a definition a module is a record of plain lists and numbers, so a statement that needs this asks for it.
+-- What the types of the struct's fields say of a module.
+-- In a definition a module is a record of plain lists and numbers, so a statement that needs this asks for it.
 --
 --    Typed m    held: [bool; 104], run: [u8; 104], queue: [u8; 15], bounce: u8, seen: [bool; 4]; of the other fields soundness says more than their types do
 --

@@ -6,7 +6,8 @@ ghost use Rattle.state.specs.Queue as is;
 
 // A code goes behind those that wait, or is dropped where 15 do.
 pub fn put(places: &mut [u8; 15], count: &mut u8, relint: &mut bool, code: u8)
-    ensures { λ _. ⌜ queue (now (places .exit)) (now (count .exit)) (now (relint .exit)) ≡ is.put (queue (now (places .entry)) (now (count .entry)) (now (relint .entry))) code ⌝ }
+    ensures { λ _. ⌜ queue (now (places .exit)) (now (count .exit)) (now (relint .exit))
+        ≡ is.put (queue (now (places .entry)) (now (count .entry)) (now (relint .entry))) code ⌝ }
 {
     let at = *count;
     if at < 15 {
@@ -42,7 +43,9 @@ fn shifted(places: [u8; 15]) -> [u8; 15]
 
 // The oldest code is taken out and given; 0x7F where none waits. RELINT stays as it is.
 pub fn take_oldest(places: &mut [u8; 15], count: &mut u8) -> u8
-    ensures { λ r. ⌜ ((relint : Bool) → (r ≡ is.oldest (queue (now (places .entry)) (now (count .entry)) relint)) × (queue (now (places .exit)) (now (count .exit)) relint ≡ is.taken (queue (now (places .entry)) (now (count .entry)) relint))) ⌝ }
+    ensures { λ r. ⌜ ((relint : Bool)
+        → (r ≡ is.oldest (queue (now (places .entry)) (now (count .entry)) relint))
+        × (queue (now (places .exit)) (now (count .exit)) relint ≡ is.taken (queue (now (places .entry)) (now (count .entry)) relint))) ⌝ }
 {
     let waiting = *count;
     if waiting < 1 {

@@ -1,11 +1,7 @@
 -- Laws of the page, of a line's words and of their digits.
 --
---    put-room, put-full               a byte has room on the page, or none
 --    wrote-end, wrote-next            a text is written byte by byte
 --    listed-end, listed-next          bytes are listed one by one
---    line-end, line-stop, line-go     a line is written byte by byte, to its newline
---    value-past                       there is no value past the last
---    filled-end, filled-next          a form is filled in byte by byte
 --    up-to-end, up-to-stop, up-to-go  a line is passed up to a byte of one kind
 --    up-to-most                       no further than the line's end
 --    same-end, same-stop, same-go     two words of one length, compared byte by byte
@@ -14,37 +10,28 @@
 --    told-most                        digits behind a number never make it smaller
 --    told-held                        digits behind a number that is held at a most tell the same up to that most
 --    told-end, told-go                the number that digits tell, held at a most: no digit is left, or one more
---    product-most                     a number held at 65,536, with one digit more, is far from wrapping
+--    product-most                     a number held at 4,294,967,296, with one digit more, is far from wrapping
 --    number-none, number-no-digit, number-large, number-value    the four answers of `numberOf`
 -- Assumes nothing.
-use Prim.Native.Nat.{ℕ, zero, suc, _+_, _-_, _*_, _≤_, _<_, min}
+use Prim.Native.Nat.{ℕ, zero, suc, _+_, _-_, _*_, _/_, _%_, _≤_, _<_, min}
 use native.Mathlib.Nat.{mul-le-mul, le-mul-of-pos-right, min-eq-left, min-eq-right, le-trans, le-of-lt}
-use native.Mathlib.Numerals.{add-one}
+use native.Mathlib.Numerals.{add-one, sub-one}
 use native.Mathlib.Omega.{arith}
 use mathlib.Core.Path.{_≡_, refl, sym, ap}
 use mathlib.Core.Bool.{Bool, true, false, _&&_, Bool·beq}
-use mathlib.Core.List.{List, [], _∷_}
-use lib.ListN.{length, getD, drop, set, drop-of-length-le}
-use lib.Seq.{drop-cons, drop-drop}
+use mathlib.Core.List.{List, [], _∷_, _++_}
+use lib.ListN.{length, getD, drop, drop-of-length-le}
+use lib.Seq.{drop-cons}
 use lib.Dec.{eqb, leb}
 use borrow.Author.Tests.{lt-ltb, le-ltb, eq-eqb, ne-eqb, leb-true, leb-false}
 use Rattle.text.specs.declared.page.Page.{Page}
-use Rattle.text.specs.Pages.{page, put, wrote, twoDigits, listed, firstLine, field, uses, nextOf, filled}
+use Rattle.text.specs.Pages.{put, wrote, twoDigits, listed}
 use Rattle.text.specs.Line.{blank, upTo, same}
 use Rattle.words.specs.Words.{some}
 use Rattle.words.proofs.Laws.{all-end, all-stop-at, all-go-at}
 use Rattle.text.specs.declared.number.Fault.the-variants.{TooFew, NoDigit, TooLarge}
 use Rattle.text.specs.declared.number.Number.the-variants.{Value, Wrong}
-use Rattle.text.specs.Digits.{digit, digits, told, numberOf}
-
-module _ (p : Page) (x : ℕ) where
-  pub put-room : p .at < 1024 → page (p .at + 1) (set (p .bytes) (p .at) x) ≡ put p x
-  unfolding put
-  put-room h = rw (lt-ltb (p .at) 1024 h)
-
-  pub put-full : 1024 ≤ p .at → p ≡ put p x
-  unfolding put
-  put-full h = rw (le-ltb (p .at) 1024 h)
+use Rattle.text.specs.Digits.{digit, digits, told, numberOf, lastDigits}
 
 module _ (p : Page) (t : List ℕ) (i : ℕ) where
   pub wrote-end : length t ≤ i → wrote p (drop i t) ≡ p
@@ -63,44 +50,6 @@ module _ (p : Page) (l : List ℕ) (i : ℕ) where
   pub listed-next : i < length l → (q r : Page) → q ≡ put p 32 → r ≡ wrote q (twoDigits (getD l i 0)) → wrote p (listed (drop i l)) ≡ wrote r (listed (drop (i + 1) l))
   unfolding wrote listed twoDigits
   listed-next h q r e f = rw (drop-cons l i 0 h, add-one i, f, e)
-
-module _ (p : Page) (t : List ℕ) (i : ℕ) where
-  pub line-end : length t ≤ i → wrote p (firstLine (drop i t)) ≡ p
-  unfolding wrote firstLine
-  line-end h = rw (drop-of-length-le t h)
-
-  module _ (h : i < length t) (q : Page) (e : q ≡ put p (getD t i 0)) where
-    pub line-stop : getD t i 0 ≡ 10 → wrote p (firstLine (drop i t)) ≡ q
-    unfolding wrote firstLine
-    line-stop s = rw (drop-cons t i 0 h, eq-eqb _ _ s, e)
-
-    pub line-go : (getD t i 0 ≡ 10 → ⊥) → wrote p (firstLine (drop i t)) ≡ wrote q (firstLine (drop (i + 1) t))
-    unfolding wrote firstLine
-    line-go s = rw (drop-cons t i 0 h, ne-eqb _ _ s, add-one i, e)
-
-pub value-past : (l : List ℕ) (i : ℕ) → length l ≤ i → 0 ≡ getD l i 0
-value-past [] i h = refl
-value-past (x ∷ l) zero h = absurd (omega arith)
-value-past (x ∷ l) (suc i) h = value-past l i (omega arith)
-
-next-drop : (l : List ℕ) (u : ℕ) → nextOf (drop u l) ≡ getD l u 0
-unfolding nextOf
-next-drop [] zero = refl
-next-drop [] (suc u) = refl
-next-drop (v ∷ l) zero = refl
-next-drop (v ∷ l) (suc u) = next-drop l u
-
-filled-more : (p : Page) (b : ℕ) (f l : List ℕ) → filled p (b ∷ f) l ≡ filled (field p b (nextOf l)) f (drop (uses b) l)
-unfolding filled
-filled-more p b f l = refl
-
-module _ (p : Page) (f l : List ℕ) (i u : ℕ) where
-  pub filled-end : length f ≤ i → filled p (drop i f) (drop u l) ≡ p
-  unfolding filled
-  filled-end h = rw (drop-of-length-le f h)
-
-  pub filled-next : i < length f → (v n : ℕ) (q : Page) → v ≡ getD l u 0 → n ≡ uses (getD f i 0) → q ≡ field p (getD f i 0) v → filled p (drop i f) (drop u l) ≡ filled q (drop (i + 1) f) (drop (u + n) l)
-  filled-next h v n q e k g = rw (drop-cons f i 0 h, add-one i, filled-more p (getD f i 0) (drop (suc i) f) (drop u l), next-drop l u, drop-drop (uses (getD f i 0)) u l, g, e, k)
 
 pub up-to-most : (t : Bool) (l : List ℕ) → upTo t l ≤ length l
 unfolding upTo
@@ -192,7 +141,7 @@ module _ (base over v : ℕ) (w : List ℕ) (i : ℕ) where
   pub told-go : i < length w → (d : ℕ) → d ≡ digit (getD w i 0) → d < base → (n : ℕ) → n ≡ min (v * base + d) over → min (told base v (drop i w)) over ≡ min (told base n (drop (i + 1) w)) over
   told-go h d e l n f = rw (told-next h d e, f) (sym (told-held base (omega arith) over (v * base + d) (drop (i + 1) w)))
 
-pub product-most : (v base : ℕ) → v ≤ 65536 → base ≤ 16 → v * base ≤ 1048576
+pub product-most : (v base : ℕ) → v ≤ 4294967296 → base ≤ 16 → v * base ≤ 68719476736
 product-most v base h k = mul-le-mul h k
 
 some-of : (w : List ℕ) → 1 ≤ length w → some w ≡ true
@@ -218,3 +167,24 @@ module _ (base most : ℕ) (w : List ℕ) (h : 1 ≤ length w) where
     pub number-value : (v : ℕ) → told base 0 w ≡ v → v ≤ most → Value v ≡ numberOf base most w
     unfolding numberOf
     number-value v f l = rw (some-of w h, e, f, le-ltb most v l)
+
+pub wrote-last : (p : Page) (t : List ℕ) (x : ℕ) → wrote p (t ++ (x ∷ [])) ≡ put (wrote p t) x
+unfolding wrote
+wrote-last p [] x = refl
+wrote-last p (b ∷ t) x = wrote-last (put p b) t x
+
+module _ (p : Page) (n : ℕ) where
+  pub last-none : (k : ℕ) → k < 1 → p ≡ wrote p (lastDigits k n)
+  unfolding wrote lastDigits
+  last-none zero h = refl
+  last-none (suc k) h = absurd (omega arith)
+
+  pub last-one : (k : ℕ) → 1 ≤ k → n < 10 → put p (n % 10 + 48) ≡ wrote p (lastDigits k n)
+  unfolding wrote lastDigits
+  last-one zero h l = absurd (omega arith)
+  last-one (suc k) h l = rw (lt-ltb n 10 l)
+
+  pub last-more : (k : ℕ) → 1 ≤ k → 10 ≤ n → (q : Page) → q ≡ wrote p (lastDigits (k - 1) (n / 10)) → put q (n % 10 + 48) ≡ wrote p (lastDigits k n)
+  unfolding lastDigits
+  last-more zero h l q e = absurd (omega arith)
+  last-more (suc k) h l q e = rw (le-ltb n 10 l, wrote-last p (lastDigits k (n / 10)) (n % 10 + 48), e, sub-one)

@@ -1,12 +1,14 @@
--- The number that a word's digits tell, judged by its value.
+-- The number that a word's digits tell, judged by its value; and the digits that tell a number.
 --
 --    digit b              the value of the digit b, in either case; 16 where it is none
 --    digits base w        every byte of the word w is a digit of the base
 --    told base v w        the number that the digits w tell, behind digits that told v
 --    numberOf base most w    the number of a word, which is at most `most`, or what is wrong with it
-use Prim.Native.Nat.{ℕ, _+_, _-_, _*_}
+--    lastDigits k n       the last k digits of n in base 10, or all where it has fewer
+--    decimal n            the digits of n in base 10: ten are enough below 2^32
+use Prim.Native.Nat.{ℕ, zero, suc, _+_, _-_, _*_, _/_, _%_}
 use mathlib.Core.Bool.{Bool, _&&_, not}
-use mathlib.Core.List.{List, [], _∷_}
+use mathlib.Core.List.{List, [], _∷_, _++_}
 use lib.Dec.{ltb, leb}
 use Rattle.words.specs.Words.{_if_, _else_, all, some}
 use Rattle.text.specs.declared.number.Fault.the-variants.{TooFew, NoDigit, TooLarge}
@@ -33,3 +35,10 @@ numberOf base most w =
     (Wrong NoDigit if not (digits base w) else
     (Wrong TooLarge if ltb most (told base 0 w) else
     Value (told base 0 w)))
+
+unfoldable pub lastDigits : ℕ → ℕ → List ℕ
+lastDigits zero n = []
+lastDigits (suc k) n = ((n % 10 + 48) ∷ []) if ltb n 10 else (lastDigits k (n / 10) ++ ((n % 10 + 48) ∷ []))
+
+unfoldable pub decimal : ℕ → List ℕ
+decimal n = lastDigits 10 n

@@ -15,7 +15,7 @@ pub enum Fault {
 }
 
 pub enum Number {
-    Value(u16),
+    Value(u32),
     Wrong(Fault),
 }
 
@@ -32,7 +32,7 @@ fn digit_of(byte: u8) -> usize
 }
 
 // The number that a word's digits tell, which is at most this; a word of no digits is missing.
-pub fn number_of(word: &[u8], base: usize, most: u16) -> Number
+pub fn number_of(word: &[u8], base: usize, most: u32) -> Number
     requires { ⌜ base ≤ 16 ⌝ }
     ensures { λ r. ⌜ r ≡ is.numberOf base most (now (word .entry)) ⌝ }
 {
@@ -54,5 +54,5 @@ pub fn number_of(word: &[u8], base: usize, most: u16) -> Number
     if value == over {
         return Number::Wrong(Fault::TooLarge);
     }
-    Number::Value(value as u16)
+    Number::Value(value as u32)
 }

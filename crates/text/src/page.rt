@@ -1,13 +1,16 @@
-// The page: an answer that is to be written out.
+// The page: a part of an answer that is to be written out.
 ghost use mathlib.Core.Path.{_≡_};
-ghost use Prim.Native.Nat.{_≤_, min};
-ghost use lib.ListN.{getD};
+ghost use Prim.Native.Nat.{_≤_, _<_, _+_, _*_, min};
+ghost use lib.ListN.{length};
 ghost use Rattle.text.specs.Pages as is;
+ghost use Rattle.text.specs.Digits.{lastDigits, decimal};
 
-// The bytes, of which those before a place are used. No answer is longer.
+// The bytes, of which those before a place are used. What goes on the page has room there: nothing is dropped.
 pub struct Page {
-    pub bytes: [u8; 1024],
+    pub bytes: [u8; 256],
     pub at: usize,
+    // could all that has left the page be written out?
+    pub ok: bool,
 }
 
 // The smaller of two numbers.
@@ -25,19 +28,18 @@ pub fn empty() -> Page
     ensures { λ r. ⌜ r .at ≡ 0 ⌝ }
 {
     Page {
-        bytes: [0; 1024],
+        bytes: [0; 256],
         at: 0,
+        ok: true,
     }
 }
 
 // A byte goes on the page.
 pub fn put(p: Page, byte: u8) -> Page
-    ensures { λ r. ⌜ r ≡ is.put p byte ⌝ }
+    requires { ⌜ p .at < 256 ⌝ }
+    ensures { λ r. ⌜ (r ≡ is.put p byte) × (r .at ≡ p .at + 1) ⌝ }
 {
     let at = p.at;
-    if 1024 <= at {
-        return p;
-    }
     let mut next = p;
     next.bytes[at] = byte;
     next.at = at + 1;
@@ -46,6 +48,7 @@ pub fn put(p: Page, byte: u8) -> Page
 
 // A text goes on the page.
 pub fn text(p: Page, words: &[u8]) -> Page
+    requires { ⌜ p .at + length (now words) ≤ 256 ⌝ }
     ensures { λ r. ⌜ r ≡ is.wrote p (now (words .entry)) ⌝ }
 {
     let mut next = p;
@@ -57,25 +60,8 @@ pub fn text(p: Page, words: &[u8]) -> Page
     next
 }
 
-// The first line of a text goes on the page, with its newline.
-pub fn line(p: Page, words: &[u8]) -> Page
-    ensures { λ r. ⌜ r ≡ is.wrote p (is.firstLine (now (words .entry))) ⌝ }
-{
-    let mut next = p;
-    let mut i: usize = 0;
-    while i < words.len() {
-        let byte = words[i];
-        next = put(next, byte);
-        if byte == b'\n' {
-            return next;
-        }
-        i = i + 1;
-    }
-    next
-}
-
 // A digit of base 16, in upper case.
-pub fn glyph(digit: u8) -> u8
+fn glyph(digit: u8) -> u8
     ensures { λ r. ⌜ r ≡ is.glyph digit ⌝ }
 {
     let d = digit % 16;
@@ -85,22 +71,25 @@ pub fn glyph(digit: u8) -> u8
     d + 55
 }
 
-// A digit goes on the page.
-pub fn digit(p: Page, value: u8) -> Page
-    ensures { λ r. ⌜ r ≡ is.put p (is.glyph value) ⌝ }
+// A digit of base 16 goes on the page.
+fn digit(p: Page, value: u8) -> Page
+    requires { ⌜ p .at < 256 ⌝ }
+    ensures { λ r. ⌜ (r ≡ is.put p (is.glyph value)) × (r .at ≡ p .at + 1) ⌝ }
 {
     put(p, glyph(value))
 }
 
 // A byte's two digits of base 16 go on the page.
 pub fn hex(p: Page, byte: u8) -> Page
-    ensures { λ r. ⌜ r ≡ is.wrote p (is.twoDigits byte) ⌝ }
+    requires { ⌜ p .at + 2 ≤ 256 ⌝ }
+    ensures { λ r. ⌜ (r ≡ is.wrote p (is.twoDigits byte)) × (r .at ≡ p .at + 2) ⌝ }
 {
     digit(digit(p, byte / 16), byte % 16)
 }
 
 // Bytes go on the page, each behind a blank.
 pub fn listed(p: Page, bytes: &[u8]) -> Page
+    requires { ⌜ p .at + length (now bytes) * 3 ≤ 256 ⌝ }
     ensures { λ r. ⌜ r ≡ is.wrote p (is.listed (now (bytes .entry))) ⌝ }
 {
     let mut next = p;
@@ -112,49 +101,25 @@ pub fn listed(p: Page, bytes: &[u8]) -> Page
     next
 }
 
-// A byte of a form: % is filled in with two digits of the value, $ with one.
-fn field(p: Page, byte: u8, value: u8) -> Page
-    ensures { λ r. ⌜ r ≡ is.field p byte value ⌝ }
+// The last digits of a number in base 10 go on the page, so many or all.
+fn last_digits(p: Page, number: u32, most: u8) -> Page
+    requires { ⌜ p .at + most ≤ 256 ⌝ }
+    ensures { λ r. ⌜ (r ≡ is.wrote p (lastDigits most number)) × (r .at ≤ p .at + most) ⌝ }
 {
-    match byte {
-        b'%' => hex(p, value),
-        b'$' => digit(p, value),
-        _ => put(p, byte),
+    if most < 1 {
+        return p;
     }
+    let last = (number % 10) as u8 + 48;
+    if number < 10 {
+        return put(p, last);
+    }
+    put(last_digits(p, number / 10, most - 1), last)
 }
 
-// How many values a byte of a form uses.
-fn uses(byte: u8) -> usize
-    ensures { λ r. ⌜ (r ≡ is.uses byte) × (r ≤ 1) ⌝ }
+// A number's digits in base 10 go on the page, as many as it has.
+pub fn decimal(p: Page, number: u32) -> Page
+    requires { ⌜ p .at + 10 ≤ 256 ⌝ }
+    ensures { λ r. ⌜ r ≡ is.wrote p (decimal number) ⌝ }
 {
-    match byte {
-        b'%' => 1,
-        b'$' => 1,
-        _ => 0,
-    }
-}
-
-// A value of a list; 0 where there are no more.
-fn value_at(values: &[u8], i: usize) -> u8
-    ensures { λ r. ⌜ r ≡ getD (now (values .entry)) i 0 ⌝ }
-{
-    if i < values.len() {
-        return values[i];
-    }
-    0
-}
-
-// A form goes on the page, filled in with the values in turn.
-pub fn form(p: Page, form: &[u8], values: &[u8]) -> Page
-    ensures { λ r. ⌜ r ≡ is.filled p (now (form .entry)) (now (values .entry)) ⌝ }
-{
-    let mut next = p;
-    let mut used: usize = 0;
-    let mut i: usize = 0;
-    while i < form.len() {
-        next = field(next, form[i], value_at(values, used));
-        used = used + uses(form[i]);
-        i = i + 1;
-    }
-    next
+    last_digits(p, number, 10)
 }

@@ -133,7 +133,9 @@ module _ (f : ℕ → Bool) where
   pub below-split : (a n : ℕ) → allBelow f (a + n) ≡ (allBelow f a && allBelow (λ j. f (a + j)) n)
   unfolding allBelow
   below-split a zero = simp unary-clauses (sym (and-true (allBelow f a)))
-  below-split a (suc n) = simp unary-clauses (ap (λ (b : Bool). b && f (a + n)) (below-split a n) ∙ and-assoc (allBelow f a) (allBelow (λ j. f (a + j)) n) (f (a + n)))
+  below-split a (suc n) =
+      simp unary-clauses
+      (ap (λ (b : Bool). b && f (a + n)) (below-split a n) ∙ and-assoc (allBelow f a) (allBelow (λ j. f (a + j)) n) (f (a + n)))
 
   pub below-same : (g : ℕ → Bool) (n : ℕ) → ((k : ℕ) → k < n → f k ≡ g k) → allBelow f n ≡ allBelow g n
   unfolding allBelow

@@ -5,7 +5,6 @@
 --    all-none, all-one                a test of no item, and of one
 --    all-append, all-take, all-drop   a test of a list's parts; all-replicate: of one item many times
 --    all-at, all-of                   a test of a list, place by place; all-anywhere: also past its end
---    by-places                        lists are the same that are place by place
 --    take-most                        at most n are taken
 --    take-room                        the first n of two lists: the one, and as much of the other as there is room for
 -- Assumes nothing.
@@ -66,12 +65,6 @@ module _ {A : Type 0} (f : A → Bool) where
   pub all-of : (d : A) (l : List A) → ((k : ℕ) → k < length l → f (getD l k d) ≡ true) → all f l ≡ true
   all-of d [] h = all-none
   all-of d (x ∷ l) h = all-cons f x l (h 0 (omega arith)) (all-of d l (λ k g. h (suc k) (omega arith)))
-
-pub by-places : {A : Type 0} (d : A) (a b : List A) → length a ≡ length b → ((k : ℕ) → k < length a → getD a k d ≡ getD b k d) → a ≡ b
-by-places d [] [] n e = refl
-by-places d [] (y ∷ b) n e = absurd (omega arith)
-by-places d (x ∷ a) [] n e = absurd (omega arith)
-by-places d (x ∷ a) (y ∷ b) n e = λ i. e 0 (omega arith) i ∷ by-places d a b (omega arith) (λ k l. e (suc k) (omega arith)) i
 
 pub take-most : {A : Type 0} (n : ℕ) (l : List A) → length (take n l) ≤ n
 take-most n l = rw (length-take n l) (omega arith)

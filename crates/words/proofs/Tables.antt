@@ -16,9 +16,8 @@ use native.Mathlib.Omega.{arith}
 use mathlib.Core.Path.{_≡_, refl, sym, ap, _∙_}
 use mathlib.Core.List.{List, [], _∷_, _++_, append-nil}
 use lib.ListN.{length, getD, set, drop, length-append, List·getD-append, drop-of-length-le}
-use lib.Seq.{drop-cons, append-snoc, set-at, getD-at}
+use lib.Seq.{drop-cons, append-snoc, set-at, getD-at, ext-getD}
 use Rattle.words.specs.Words.{table}
-use Rattle.words.proofs.Lists.{by-places}
 
 module _ {A : Type 0} (f : ℕ → A) where
   pub table-length : (n : ℕ) → length (table f n) ≡ n
@@ -43,7 +42,7 @@ module _ {A : Type 0} (f : ℕ → A) where
 pub by-table : {A : Type 0} (d : A) (f : ℕ → A) (n : ℕ) (l : List A) → length l ≡ n → ((k : ℕ) → k < n → f k ≡ getD l k d) → table f n ≡ l
 by-table d f n l e same =
     let t = table-length f n in
-    by-places d (table f n) l (t ∙ sym e) (λ i h. table-at f n i d (omega arith) ∙ same i (omega arith))
+    ext-getD d (table f n) l (t ∙ sym e) (λ i h. table-at f n i d (omega arith) ∙ same i (omega arith))
 
 pub table-front : {A : Type 0} (c : A) (n : ℕ) → table (λ _. c) (suc n) ≡ c ∷ table (λ _. c) n
 unfolding table

@@ -49,7 +49,8 @@ looked-requires : tie.Need-looked-requires
 looked-requires c κs =
     let ok = sym (c .before .before .before .before .before .is-sound .ensures) ∙ not-false _ (c .before .before .before .before .if1 .left) in
     let m = c .before .before .before .before .before .before .before .args .m in
-    (eight-samples _ (sym (c .before .before .before .of-samples .ensures) ∙ c .before .before .if2 .left), record { rows = rows-most _ (sound-facts m ok .size); keys = sound-out m ok })
+    let eight = sym (c .before .before .before .of-samples .ensures) ∙ c .before .before .if2 .left in
+    (eight-samples _ eight, record { rows = rows-most _ (sound-facts m ok .size); keys = sound-out m ok })
 
 returns-4 : tie.Need-returns-4
 unfolding lookCall

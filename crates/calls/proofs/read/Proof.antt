@@ -40,7 +40,9 @@ returns-3 : tie.Need-returns-3
 unfolding readCall readNumber
 returns-3 c =
     let a = c .before .before .before .before .before .before .before .before .before .args in
-    let ok = sym (c .before .before .before .before .before .before .before .is-sound .ensures) ∙ not-false _ (c .before .before .before .before .before .before .if1 .left) in
+    let ok =
+    sym (c .before .before .before .before .before .before .before .is-sound .ensures)
+    ∙ not-false _ (c .before .before .before .before .before .before .if1 .left) in
     let good = sound-then (a .m) _ ok ∙ sym (c .before .before .before .before .before .of-read .ensures) ∙ c .before .before .before .before .if2 .left in
     (outcome-done (a .m) _ _ _ (c .before .before .fill .ensures .0) good, buffer-done (a .m) _ (a .out .now) _ (c .before .before .fill .ensures .1) good)
 

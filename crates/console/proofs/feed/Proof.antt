@@ -1,17 +1,16 @@
 -- `feed` is safe: each turn takes in one byte or more.
 -- Assumes nothing.
 use Prim.Native.Nat.{_≤_, _-_}
-use mathlib.Core.Path.{_≡_}
 use lib.ListN.{length}
 use borrow.Author.Needs.{needs}
 use Rattle.console.proofs.feed.Statement.{statement}
 use Rattle.console.proofs.feed.Tie as tie
 
 abbrev Inv-loop : tie.InvT-loop
-Inv-loop input line₀ session₀ i₀ line session i = (i ≤ length input) × (length line ≡ length line₀)
+Inv-loop input line₀ values₀ bytes₀ session₀ i₀ line values bytes session i = i ≤ length input
 
 abbrev μ-loop : tie.MeasureT-loop
-μ-loop input line₀ session₀ i₀ line session i = length input - i
+μ-loop input line₀ values₀ bytes₀ session₀ i₀ line values bytes session i = length input - i
 
 loop-holds : tie.Need-loop-holds Inv-loop μ-loop
 loop-holds c = search needs
@@ -37,9 +36,6 @@ loop-less c = search needs
 loop-again : tie.Need-loop-again Inv-loop μ-loop
 loop-again c = search needs
 
-same-length : tie.Need-same-length Inv-loop μ-loop
-same-length c = search needs
-
 returns : tie.Need-returns Inv-loop μ-loop
 returns c = search needs
 
@@ -57,5 +53,4 @@ feed-spec =
     take-in-requires
     loop-less
     loop-again
-    same-length
     returns)

@@ -1,20 +1,31 @@
 -- `main` is safe: every turn is one less.
 -- Assumes nothing.
+use mathlib.Core.Path.{_≡_}
+use lib.ListN.{length}
 use borrow.Author.Needs.{needs}
 use Rattle.console.proofs.main.Statement.{statement}
 use Rattle.console.proofs.main.Tie as tie
 
 abbrev Inv-loop : tie.InvT-loop
-Inv-loop line₀ s₀ turns₀ line s turns = Unit {0}
+Inv-loop input₀ line₀ values₀ bytes₀ s₀ turns₀ input line values bytes s turns = 65536 ≡ length input
 
 abbrev μ-loop : tie.MeasureT-loop
-μ-loop line₀ s₀ turns₀ line s turns = turns
+μ-loop input₀ line₀ values₀ bytes₀ s₀ turns₀ input line values bytes s turns = turns
+
+large-buffer-requires : tie.Need-large-buffer-requires Inv-loop μ-loop
+large-buffer-requires c κs = search needs
 
 fresh-requires : tie.Need-fresh-requires Inv-loop μ-loop
 fresh-requires c κs = search needs
 
+empty-requires : tie.Need-empty-requires Inv-loop μ-loop
+empty-requires c κs = search needs
+
 loop-holds : tie.Need-loop-holds Inv-loop μ-loop
 loop-holds c = search needs
+
+slice-aggregate-turn : tie.Need-slice-aggregate-turn Inv-loop μ-loop
+slice-aggregate-turn c = search needs
 
 turn-requires : tie.Need-turn-requires Inv-loop μ-loop
 turn-requires c κs = search needs
@@ -40,8 +51,11 @@ main-spec =
     (tie.spec
     Inv-loop
     μ-loop
+    large-buffer-requires
     fresh-requires
+    empty-requires
     loop-holds
+    slice-aggregate-turn
     turn-requires
     sub-turns
     loop-less

@@ -26,7 +26,8 @@ returns : tie.Need-returns
 unfolding waits
 returns c =
     c .byte .ensures
-    ∙ (λ i. four (c .before .before .before .before .cleared .ensures i) (c .before .before .before .cleared2 .ensures i) (c .before .before .cleared3 .ensures i) (c .before .cleared4 .ensures i))
+    ∙ (λ i. four (c .before .before .before .before .cleared .ensures i) (c .before .before .before .cleared2 .ensures i)
+    (c .before .before .cleared3 .ensures i) (c .before .cleared4 .ensures i))
 
 pub mis-spec : {M : Type 1} → statement M
 mis-spec =

@@ -31,7 +31,9 @@ is-fit-requires c κs = search needs
 returns : tie.Need-returns Inv-loop μ-loop
 returns c =
     let l = c .before .before .before .before .before .loop in
-    sym (l .inv .1 ∙ sizes-stop (l .address) _ (l .i) _ _ (c .before .before .before .before .loop-test .taken) (c .before .before .before .register-at .ensures) (c .before .is-fit .ensures) (not-true _ (c .if1 .taken)))
+    let more = c .before .before .before .before .loop-test .taken in
+    let told = c .before .before .before .register-at .ensures in
+    sym (l .inv .1 ∙ sizes-stop (l .address) _ (l .i) _ _ more told (c .before .is-fit .ensures) (not-true _ (c .if1 .taken)))
 
 next-address-requires : tie.Need-next-address-requires Inv-loop μ-loop
 next-address-requires c κs = search needs
@@ -44,11 +46,11 @@ loop-less c = search needs
 
 loop-again : tie.Need-loop-again Inv-loop μ-loop
 loop-again c =
-    let l = c .before .before .before .before .before .before .loop in (
-      search needs,
-      l .inv .1
-          ∙ sizes-go (l .address) _ (l .i) _ _ (c .before .before .before .before .before .loop-test .taken) (c .before .before .before .before .register-at .ensures) (c .before .before .is-fit .ensures) (not-false _ (c .before .if1 .left)) _ (c .next-address .ensures),
-    )
+    let l = c .before .before .before .before .before .before .loop in
+    let more = c .before .before .before .before .before .loop-test .taken in
+    let told = c .before .before .before .before .register-at .ensures in
+    let fits = c .before .before .is-fit .ensures in
+    (search needs, l .inv .1 ∙ sizes-go (l .address) _ (l .i) _ _ more told fits (not-false _ (c .before .if1 .left)) _ (c .next-address .ensures))
 
 returns-2 : tie.Need-returns-2 Inv-loop μ-loop
 returns-2 c = let l = c .before .loop in sym (l .inv .1 ∙ sizes-none (l .address) _ (l .i) (c .loop-test .left))

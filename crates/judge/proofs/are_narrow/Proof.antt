@@ -32,7 +32,8 @@ returns : tie.Need-returns Inv-loop μ-loop
 returns c =
     let l = c .before .before .before .loop in
     let s = c .before .before .before .before .args .samples .now in
-    sym (l .inv .1 ∙ all-stop-at (λ x. not (high x)) s (l .i) 0 (c .before .before .loop-test .taken) (high-yes _ (c .if1 .taken) (omega (arith, c .before .shared-slice-known .given (l .i)))))
+    let wide = high-yes _ (c .if1 .taken) (omega (arith, c .before .shared-slice-known .given (l .i))) in
+    sym (l .inv .1 ∙ all-stop-at (λ x. not (high x)) s (l .i) 0 (c .before .before .loop-test .taken) wide)
 
 add-i : tie.Need-add-i Inv-loop μ-loop
 add-i c = search needs

@@ -25,13 +25,17 @@ returns-3 : tie.Need-returns-3
 unfolding accessLines
 returns-3 c =
     let n = c .before .before .before .before .args .count in
-    sym (goes _ 3 _ (ne-eqb n 0 (omega arith)) ∙ goes _ 4 _ (le-ltb _ _ (c .before .before .if2 .left)) ∙ stops _ 5 _ (ap not (sym (c .before .is-run-allowed .ensures)) ∙ c .if3 .taken))
+    let some = ne-eqb n 0 (omega arith) in
+    let few = le-ltb _ _ (c .before .before .if2 .left) in
+    sym (goes _ 3 _ some ∙ goes _ 4 _ few ∙ stops _ 5 _ (ap not (sym (c .before .is-run-allowed .ensures)) ∙ c .if3 .taken))
 
 returns-4 : tie.Need-returns-4
 unfolding accessLines
 returns-4 c =
     let n = c .before .before .before .before .args .count in
-    sym (goes _ 3 _ (ne-eqb n 0 (omega arith)) ∙ goes _ 4 _ (le-ltb _ _ (c .before .before .if2 .left)) ∙ goes _ 5 _ (ap not (sym (c .before .is-run-allowed .ensures)) ∙ c .if3 .left) ∙ ends)
+    let some = ne-eqb n 0 (omega arith) in
+    let few = le-ltb _ _ (c .before .before .if2 .left) in
+    sym (goes _ 3 _ some ∙ goes _ 4 _ few ∙ goes _ 5 _ (ap not (sym (c .before .is-run-allowed .ensures)) ∙ c .if3 .left) ∙ ends)
 
 pub of-access-spec : {M : Type 1} → statement M
 of-access-spec = tie.close (tie.spec returns returns-2 is-run-allowed-requires returns-3 returns-4)

@@ -18,11 +18,15 @@ are-narrow-requires c κs = search needs
 
 returns-2 : tie.Need-returns-2
 unfolding sampleLines
-returns-2 c = sym (goes _ 1 _ (ap not (eq-eqb _ _ (c .before .before .if1 .left))) ∙ stops _ 2 _ (ap not (sym (c .before .are-narrow .ensures)) ∙ c .if2 .taken))
+returns-2 c =
+    let eight = ap not (eq-eqb _ _ (c .before .before .if1 .left)) in
+    sym (goes _ 1 _ eight ∙ stops _ 2 _ (ap not (sym (c .before .are-narrow .ensures)) ∙ c .if2 .taken))
 
 returns-3 : tie.Need-returns-3
 unfolding sampleLines
-returns-3 c = sym (goes _ 1 _ (ap not (eq-eqb _ _ (c .before .before .if1 .left))) ∙ goes _ 2 _ (ap not (sym (c .before .are-narrow .ensures)) ∙ c .if2 .left) ∙ ends)
+returns-3 c =
+    let eight = ap not (eq-eqb _ _ (c .before .before .if1 .left)) in
+    sym (goes _ 1 _ eight ∙ goes _ 2 _ (ap not (sym (c .before .are-narrow .ensures)) ∙ c .if2 .left) ∙ ends)
 
 pub of-samples-spec : {M : Type 1} → statement M
 of-samples-spec = tie.close (tie.spec returns are-narrow-requires returns-2 returns-3)

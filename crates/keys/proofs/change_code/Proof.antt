@@ -1,4 +1,4 @@
--- `keys::change_code` meets its contract: row and column of the key, and then the code by what the contact did.
+-- `keys::change_code` meets its contract: by the key's row and column.
 -- Assumes nothing.
 use Rattle.keys.specs.Keys.{code}
 use borrow.Author.Needs.{needs}
@@ -11,27 +11,12 @@ row-of-requires c κs = search needs
 col-of-requires : tie.Need-col-of-requires
 col-of-requires c κs = search needs
 
-press-code-requires : tie.Need-press-code-requires
-press-code-requires c κs = search needs
+code-at-requires : tie.Need-code-at-requires
+code-at-requires c κs = search needs
 
 returns : tie.Need-returns
 unfolding code
-returns c = rw (c .before .if1 .taken, ← c .before .before .before .row-of .ensures, ← c .before .before .col-of .ensures) (c .press-code .ensures)
-
-release-code-requires : tie.Need-release-code-requires
-release-code-requires c κs = search needs
-
-returns-2 : tie.Need-returns-2
-unfolding code
-returns-2 c = rw (c .before .if1 .left, ← c .before .before .before .row-of .ensures, ← c .before .before .col-of .ensures) (c .release-code .ensures)
+returns c = rw (← c .before .before .row-of .ensures, ← c .before .col-of .ensures) (c .code-at .ensures)
 
 pub change-code-spec : {M : Type 1} → statement M
-change-code-spec =
-    tie.close
-    (tie.spec
-    row-of-requires
-    col-of-requires
-    press-code-requires
-    returns
-    release-code-requires
-    returns-2)
+change-code-spec = tie.close (tie.spec row-of-requires col-of-requires code-at-requires returns)

@@ -15,6 +15,9 @@ returns : tie.Need-returns
 unfolding counted
 returns c = rw (sym (c .before .is-in-size .ensures) ∙ not-true _ (c .if1 .taken))
 
+cast-result : tie.Need-cast-result
+cast-result c = search needs
+
 shr-result : tie.Need-shr-result
 shr-result c = search needs
 
@@ -23,4 +26,4 @@ unfolding counted bit
 returns-2 c = rw (sym (c .before .is-in-size .ensures) ∙ not-false _ (c .if1 .left))
 
 pub is-closed-spec : {M : Type 1} → statement M
-is-closed-spec = tie.close (tie.spec is-in-size-requires returns shr-result returns-2)
+is-closed-spec = tie.close (tie.spec is-in-size-requires returns cast-result shr-result returns-2)

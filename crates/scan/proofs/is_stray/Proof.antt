@@ -11,7 +11,7 @@ use Rattle.scan.proofs.is_stray.Tie as tie
 
 returns : tie.Need-returns
 unfolding stepped opposite
-returns c = let a = c .before .args in rw (not-true (a .held) (c .if1 .taken), or-true (inSize (a .size) (a .row) (a .col)))
+returns c = let a = c .before .args in rw (not-true (a .held) (c .if1 .taken), or-true (inSize (a .size) (a .row .0) (a .col .0)))
 
 is-in-size-requires : tie.Need-is-in-size-requires
 is-in-size-requires c κs = search needs

@@ -19,15 +19,6 @@ abbrev μ-loop : tie.MeasureT-loop
 loop-holds : tie.Need-loop-holds Inv-loop μ-loop
 loop-holds c = (search needs, row-none _ _ _ _ _)
 
-mul-key : tie.Need-mul-key Inv-loop μ-loop
-mul-key c = search needs
-
-cast-key : tie.Need-cast-key Inv-loop μ-loop
-cast-key c = search needs
-
-add-key : tie.Need-add-key Inv-loop μ-loop
-add-key c = search needs
-
 is-closed-requires : tie.Need-is-closed-requires Inv-loop μ-loop
 is-closed-requires c κs = search needs
 
@@ -56,9 +47,6 @@ look-at-row-spec =
     Inv-loop
     μ-loop
     loop-holds
-    mul-key
-    cast-key
-    add-key
     is-closed-requires
     look-at-requires
     add-col

@@ -32,17 +32,17 @@ returns c =
     let a = c .before .before .before .before .args in
     sym (l .inv ∙ front-end _ (a .places .now) (a .count) (l .i) (omega arith))
 
-shared-slice-read-code-sound : tie.Need-shared-slice-read-code-sound Inv-loop μ-loop
-shared-slice-read-code-sound c = search needs
+shared-slice-read-is-code-in : tie.Need-shared-slice-read-is-code-in Inv-loop μ-loop
+shared-slice-read-is-code-in c = search needs
 
-code-sound-requires : tie.Need-code-sound-requires Inv-loop μ-loop
-code-sound-requires c κs = search needs
+is-code-in-requires : tie.Need-is-code-in-requires Inv-loop μ-loop
+is-code-in-requires c κs = search needs
 
 returns-2 : tie.Need-returns-2 Inv-loop μ-loop
 returns-2 c =
     let l = c .before .before .before .before .before .loop in
     let b = c .before .before .before .before .before .before in
-    sym (l .inv ∙ front-stops _ _ _ (l .i) 0 (c .before .before .before .if1 .left) (omega (arith, b .bytes .given .0)) (sym (c .before .code-sound .ensures) ∙ not-true _ (c .if2 .taken)))
+    sym (l .inv ∙ front-stops _ _ _ (l .i) 0 (c .before .before .before .if1 .left) (omega (arith, b .bytes .given .0)) (sym (c .before .is-code-in .ensures) ∙ not-true _ (c .if2 .taken)))
 
 add-i : tie.Need-add-i Inv-loop μ-loop
 add-i c = search needs
@@ -54,7 +54,7 @@ loop-again : tie.Need-loop-again Inv-loop μ-loop
 loop-again c =
     let l = c .before .before .before .before .before .loop in
     let b = c .before .before .before .before .before .before in
-    l .inv ∙ front-goes _ _ _ (l .i) 0 (c .before .before .before .if1 .left) (omega (arith, b .bytes .given .0)) (sym (c .before .code-sound .ensures) ∙ not-false _ (c .if2 .left))
+    l .inv ∙ front-goes _ _ _ (l .i) 0 (c .before .before .before .if1 .left) (omega (arith, b .bytes .given .0)) (sym (c .before .is-code-in .ensures) ∙ not-false _ (c .if2 .left))
 
 returns-3 : tie.Need-returns-3 Inv-loop μ-loop
 returns-3 c =
@@ -70,8 +70,8 @@ codes-sound-spec =
     μ-loop
     loop-holds
     returns
-    shared-slice-read-code-sound
-    code-sound-requires
+    shared-slice-read-is-code-in
+    is-code-in-requires
     returns-2
     add-i
     loop-less

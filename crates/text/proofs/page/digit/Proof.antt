@@ -13,7 +13,7 @@ put-requires : tie.Need-put-requires
 put-requires c κs = search needs
 
 returns : tie.Need-returns
-returns c = c .put .ensures ∙ ap (is.put _) (c .before .glyph .ensures)
+returns c = (c .put .ensures .0 ∙ ap (is.put _) (c .before .glyph .ensures), c .put .ensures .1)
 
 pub digit-spec : {M : Type 1} → statement M
 digit-spec = tie.close (tie.spec glyph-requires put-requires returns)

@@ -16,7 +16,10 @@ digit-requires-2 c κs = search needs
 
 returns : tie.Need-returns
 unfolding is.wrote is.twoDigits
-returns c = c .digit2 .ensures ∙ ap (λ (p : Page). is.put p (is.glyph (c .before .before .args .byte % 16))) (c .before .digit .ensures)
+returns c = (
+  c .digit2 .ensures .0 ∙ ap (λ (p : Page). is.put p (is.glyph (c .before .before .args .byte % 16))) (c .before .digit .ensures .0),
+  search needs,
+)
 
 pub hex-spec : {M : Type 1} → statement M
 hex-spec = tie.close (tie.spec digit-requires digit-requires-2 returns)

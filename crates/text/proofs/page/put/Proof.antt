@@ -1,12 +1,10 @@
--- `page::put` meets its contract: there is room, or none.
+-- `page::put` meets its contract: the byte stands behind those used.
 -- Assumes nothing.
-use Rattle.text.proofs.Laws.{put-room, put-full}
+use mathlib.Core.Path.{refl}
+use Rattle.text.specs.Pages.{put}
 use borrow.Author.Needs.{needs}
 use Rattle.text.proofs.page.put.Statement.{statement}
 use Rattle.text.proofs.page.put.Tie as tie
-
-returns : tie.Need-returns
-returns c = put-full _ _ (c .if1 .taken)
 
 element-write-next : tie.Need-element-write-next
 element-write-next c = search needs
@@ -14,8 +12,9 @@ element-write-next c = search needs
 add-next : tie.Need-add-next
 add-next c = search needs
 
-returns-2 : tie.Need-returns-2
-returns-2 c = put-room _ _ (c .if1 .left)
+returns : tie.Need-returns
+unfolding put
+returns c = (refl, refl)
 
 pub put-spec : {M : Type 1} → statement M
-put-spec = tie.close (tie.spec returns element-write-next add-next returns-2)
+put-spec = tie.close (tie.spec element-write-next add-next returns)

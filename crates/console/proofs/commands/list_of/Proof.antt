@@ -1,0 +1,98 @@
+-- `commands::list_of` meets its contract: each turn finds one number more.
+-- Assumes nothing.
+use Prim.Native.Nat.{_≤_, _-_}
+use mathlib.Core.Path.{_≡_}
+use lib.ListN.{length, length-set}
+use native.Mathlib.Omega.{arith}
+use borrow.Author.Needs.{needs}
+use Rattle.console.proofs.commands.list_of.Statement.{statement}
+use Rattle.console.proofs.commands.list_of.Tie as tie
+
+abbrev Inv-loop : tie.InvT-loop
+Inv-loop line most values₀ at₀ count₀ values at count = (at ≤ length line) × (count ≤ length values) × (length values ≡ length values₀)
+
+abbrev μ-loop : tie.MeasureT-loop
+μ-loop line most values₀ at₀ count₀ values at count = length values - count
+
+loop-holds : tie.Need-loop-holds Inv-loop μ-loop
+loop-holds c = search needs
+
+is-end-requires : tie.Need-is-end-requires Inv-loop μ-loop
+is-end-requires c κs = search needs
+
+same-length : tie.Need-same-length Inv-loop μ-loop
+same-length c = search needs
+
+returns : tie.Need-returns Inv-loop μ-loop
+returns c = search needs
+
+number-at-requires : tie.Need-number-at-requires Inv-loop μ-loop
+number-at-requires c κs = search needs
+
+enum-known-number : tie.Need-enum-known-number Inv-loop μ-loop
+enum-known-number c = search needs
+
+cast-values : tie.Need-cast-values Inv-loop μ-loop
+cast-values c = search needs
+
+mul-values : tie.Need-mul-values Inv-loop μ-loop
+mul-values c = search needs
+
+slice-write-values : tie.Need-slice-write-values Inv-loop μ-loop
+slice-write-values c = search needs
+
+add-count : tie.Need-add-count Inv-loop μ-loop
+add-count c = search needs
+
+loop-less : tie.Need-loop-less Inv-loop μ-loop
+loop-less c = simp length-set (omega arith)
+
+loop-again : tie.Need-loop-again Inv-loop μ-loop
+loop-again c = (search needs, simp length-set (omega arith), simp length-set (omega arith))
+
+enum-known-number-2 : tie.Need-enum-known-number-2 Inv-loop μ-loop
+enum-known-number-2 c = search needs
+
+wrong-requires : tie.Need-wrong-requires Inv-loop μ-loop
+wrong-requires c κs = search needs
+
+same-length-2 : tie.Need-same-length-2 Inv-loop μ-loop
+same-length-2 c = search needs
+
+returns-2 : tie.Need-returns-2 Inv-loop μ-loop
+returns-2 c = search needs
+
+wrong-requires-2 : tie.Need-wrong-requires-2 Inv-loop μ-loop
+wrong-requires-2 c κs = search needs
+
+same-length-3 : tie.Need-same-length-3 Inv-loop μ-loop
+same-length-3 c = search needs
+
+returns-3 : tie.Need-returns-3 Inv-loop μ-loop
+returns-3 c = search needs
+
+pub list-of-spec : {M : Type 1} → statement M
+list-of-spec =
+    tie.close
+    (tie.spec
+    Inv-loop
+    μ-loop
+    loop-holds
+    is-end-requires
+    same-length
+    returns
+    number-at-requires
+    enum-known-number
+    cast-values
+    mul-values
+    slice-write-values
+    add-count
+    loop-less
+    loop-again
+    enum-known-number-2
+    wrong-requires
+    same-length-2
+    returns-2
+    wrong-requires-2
+    same-length-3
+    returns-3)

@@ -1,0 +1,70 @@
+// Answers written out in pieces: the page is written out when it has no room for what comes next, and when all that has arrived is answered.
+use libc::STDOUT_FILENO;
+use text::page;
+use text::page::Page;
+ghost use Prim.Native.Nat.{_≤_, _+_};
+
+// Writes out the first bytes of a list.
+fn send(bytes: &[u8], at: usize) -> bool {
+    if at <= bytes.len() {
+        return io::write_all(STDOUT_FILENO, &bytes[0..at]);
+    }
+    false
+}
+
+// Writes out what stands on the page, and empties it.
+pub(crate) fn written(p: Page) -> Page
+    ensures { λ r. ⌜ r .at ≤ 0 ⌝ }
+{
+    let bytes = p.bytes;
+    let mut next = p;
+    next.ok = p.ok & send(&bytes, p.at);
+    next.at = 0;
+    next
+}
+
+// The page with room for so many bytes.
+fn room(p: Page, n: usize) -> Page
+    requires { ⌜ n ≤ 256 ⌝ }
+    ensures { λ r. ⌜ r .at + n ≤ 256 ⌝ }
+{
+    let at = p.at;
+    if at <= 256 - n {
+        return p;
+    }
+    written(p)
+}
+
+// Writes a text.
+pub(crate) fn text(p: Page, words: &[u8]) -> Page {
+    let mut next = p;
+    let mut i: usize = 0;
+    while i < words.len() {
+        let n = page::least(words.len() - i, 256);
+        next = page::text(room(next, n), &words[i..i + n]);
+        i = i + n;
+    }
+    next
+}
+
+// Writes bytes, each behind a blank.
+pub(crate) fn listed(p: Page, bytes: &[u8]) -> Page {
+    let mut next = p;
+    let mut i: usize = 0;
+    while i < bytes.len() {
+        let n = page::least(bytes.len() - i, 85);
+        next = page::listed(room(next, n * 3), &bytes[i..i + n]);
+        i = i + n;
+    }
+    next
+}
+
+// Writes a byte in base 16.
+pub(crate) fn hex(p: Page, byte: u8) -> Page {
+    page::hex(room(p, 2), byte)
+}
+
+// Writes a number in base 10.
+pub(crate) fn decimal(p: Page, number: u32) -> Page {
+    page::decimal(room(p, 10), number)
+}

@@ -1,0 +1,22 @@
+-- EVERY DEFINITION of the crate and of the crates below, opened by one name: a proof by computing says `unfolding opened`.
+use mathlib.Core.Bool.{Bool, true}
+use Rattle.sheet.proofs.Opened as sheet
+use Rattle.calls.proofs.Opened as calls
+use Rattle.demands.specs.Demands.{bytesOf}
+use Rattle.demands.specs.Machine.{lent, after, wrotes, gots, happened, done, fits, codesIn, covers, fetchedBy, fetched, seen}
+use Rattle.demands.specs.Ours.{changing, asking, called}
+use Rattle.demands.specs.Sessions.{same, agrees, passes, sessions}
+use Rattle.demands.specs.Shown as shown
+use Rattle.demands.specs.Table.{First, place, rules}
+use Rattle.demands.specs.Wrong.{calledBy, carried, declined, blankBytes, stays, nothing, ignoring, handled, madeUp, runsKept, roomFor, keysKept, quiet, hushing, hushed, pastState, pastBytes, takenFirst, hurried, putLate, putAllLate, oldestLost, onlyFirst, emptied, trusted, single, singleStays, singleBlank, unreported}
+
+unfoldable pub opened : Bool
+unfolding sheet.opened calls.opened
+    bytesOf
+    lent after wrotes gots happened done fits codesIn covers fetchedBy fetched seen
+    changing asking called
+    same agrees passes sessions
+    shown.after shown.run shown.places shown.shown shown.fitting
+    First place rules
+    calledBy carried declined blankBytes stays nothing ignoring handled madeUp runsKept roomFor keysKept quiet hushing hushed pastState pastBytes takenFirst hurried putLate putAllLate oldestLost onlyFirst emptied trusted single singleStays singleBlank unreported
+opened = true

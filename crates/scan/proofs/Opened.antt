@@ -1,0 +1,13 @@
+-- EVERY DEFINITION of the crate and of the crates below, opened by one name: a proof by computing says `unfolding opened`.
+use mathlib.Core.Bool.{Bool, true}
+use Rattle.keys.proofs.Opened as keys
+use Rattle.contact.proofs.Opened as contact
+use Rattle.state.proofs.Opened as state
+use Rattle.scan.specs.Scan.{contactAt, changesBelow, changes, strays, contacts, noticed, looked}
+use Rattle.scan.specs.Walk.{counted, atKey, atRow, firstOut, fitsAt}
+
+unfoldable pub opened : Bool
+unfolding keys.opened contact.opened state.opened
+    contactAt changesBelow changes strays contacts noticed looked
+    counted atKey atRow firstOut fitsAt
+opened = true

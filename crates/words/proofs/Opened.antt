@@ -1,0 +1,7 @@
+-- EVERY DEFINITION of the crate and of the crates below, opened by one name: a proof by computing says `unfolding opened`.
+use mathlib.Core.Bool.{Bool, true}
+use Rattle.words.specs.Words.{every, all, allBelow, among, some, bit, without, table}
+
+unfoldable pub opened : Bool
+unfolding every all allBelow among some bit without table
+opened = true
