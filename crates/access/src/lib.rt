@@ -6,7 +6,7 @@ ghost use lib.ListN.{length};
 ghost use Rattle.words.specs.Words.{table};
 ghost use Rattle.state.specs.Module.{queue, withQueue};
 ghost use Rattle.access.specs.Bytes as byte;
-ghost use Rattle.access.specs.Accesses as is;
+ghost use Rattle.access.specs.Accesses.{bytesRead, readAll, wrote};
 ghost use Rattle.access.specs.Lent.{lent};
 
 // What a read shows and leaves as it is.
@@ -53,7 +53,7 @@ fn written(m: Module, register: Register, b: u8) -> Module
 
 // The state once the bytes of a write are written, one at a time, in order.
 pub fn wrote(m: Module, first: u16, bytes: &[u8]) -> Module
-    ensures { λ r. ⌜ r ≡ is.wrote m first (now (bytes .entry)) ⌝ }
+    ensures { λ r. ⌜ r ≡ wrote m first (now (bytes .entry)) ⌝ }
 {
     let mut after = m;
     let mut address = first;
@@ -115,7 +115,7 @@ fn fetch(places: &mut [u8; 15], count: &mut u8, out: &mut [u8])
     ensures { λ _. ⌜ ((m : Module) →
         let before = withQueue m (queue (now (places .entry)) (now (count .entry)) (m .relint)) in
         let after = withQueue m (queue (now (places .exit)) (now (count .exit)) (m .relint)) in
-        (after ≡ is.readAll before 0x10 (length (now (out .entry)))) × (now (out .exit) ≡ is.bytesRead before 0x10 (length (now (out .entry))))) ⌝ }
+        (after ≡ readAll before 0x10 (length (now (out .entry)))) × (now (out .exit) ≡ bytesRead before 0x10 (length (now (out .entry))))) ⌝ }
 {
     let waiting = *count;
     if waiting < 1 {
@@ -143,7 +143,7 @@ fn fill_from(
     ensures { λ _. ⌜ ((m : Module) →
         let before = lent m (now (held .entry)) shown (now (places .entry)) (now (count .entry)) (now (rsint .entry)) (now (seen .entry)) in
         let after = lent m (now (held .entry)) shown (now (places .exit)) (now (count .exit)) (now (rsint .exit)) (now (seen .exit)) in
-        (after ≡ is.readAll before first (length (now (out .entry)))) × (now (out .exit) ≡ is.bytesRead before first (length (now (out .entry))))) ⌝ }
+        (after ≡ readAll before first (length (now (out .entry)))) × (now (out .exit) ≡ bytesRead before first (length (now (out .entry))))) ⌝ }
 {
     if out.len() < 1 {
         return;
@@ -163,7 +163,7 @@ fn fill_from(
 
 // The buffer is filled from EVTCODE: the queue is lent, and put back.
 fn fill_codes(m: Module, out: &mut [u8]) -> Module
-    ensures { λ r. ⌜ (r ≡ is.readAll m 0x10 (length (now (out .entry)))) × (now (out .exit) ≡ is.bytesRead m 0x10 (length (now (out .entry)))) ⌝ }
+    ensures { λ r. ⌜ (r ≡ readAll m 0x10 (length (now (out .entry)))) × (now (out .exit) ≡ bytesRead m 0x10 (length (now (out .entry)))) ⌝ }
 {
     let mut places = m.queue;
     let mut count = m.count;
@@ -176,7 +176,7 @@ fn fill_codes(m: Module, out: &mut [u8]) -> Module
 
 // The buffer is filled from any registers: what a read may alter of the state is lent, and put back.
 fn fill_bytes(m: Module, first: u16, out: &mut [u8]) -> Module
-    ensures { λ r. ⌜ (r ≡ is.readAll m first (length (now (out .entry)))) × (now (out .exit) ≡ is.bytesRead m first (length (now (out .entry)))) ⌝ }
+    ensures { λ r. ⌜ (r ≡ readAll m first (length (now (out .entry)))) × (now (out .exit) ≡ bytesRead m first (length (now (out .entry)))) ⌝ }
 {
     let shown = Shown {
         bounce: m.bounce,
@@ -210,7 +210,7 @@ fn fill_bytes(m: Module, first: u16, out: &mut [u8]) -> Module
 
 // The buffer is filled by a read. EVTCODE's address stays, so that a read from there on has a rule of its own, which takes less stack.
 pub fn fill(m: Module, first: u16, out: &mut [u8]) -> Module
-    ensures { λ r. ⌜ (r ≡ is.readAll m first (length (now (out .entry)))) × (now (out .exit) ≡ is.bytesRead m first (length (now (out .entry)))) ⌝ }
+    ensures { λ r. ⌜ (r ≡ readAll m first (length (now (out .entry)))) × (now (out .exit) ≡ bytesRead m first (length (now (out .entry)))) ⌝ }
 {
     if registers::stays(first) {
         return fill_codes(m, out);

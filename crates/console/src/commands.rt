@@ -95,16 +95,6 @@ pub(crate) fn list_of(line: &[u8], most: u16, values: &mut [u16]) -> Listed
     wrong(Fault::TooMany)
 }
 
-// The numbers of all words, base 16, each at most 255, and at least one.
-pub(crate) fn bytes_of(line: &[u8], values: &mut [u16]) -> Listed
-    ensures { λ r. ⌜ r .count ≤ length (now (values .exit)) ⌝ }
-{
-    if is_empty(line) {
-        return wrong(Fault::TooFew);
-    }
-    list_of(line, 0xFF, values)
-}
-
 // Two numbers, of which the first is known; the second is base 10 and at most this; no word stands after it.
 fn pair_with(first: u32, line: &[u8], from: usize, most: u32) -> Pair
     requires { ⌜ from ≤ length (now line) ⌝ }

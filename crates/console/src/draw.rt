@@ -9,16 +9,22 @@ use text::page::Page;
 // The line above the keys: five places, and three for each column's label.
 const HEAD: [u8; 41] = *b"row    0  1  2  3  4  5  6  7  8  9 10 11";
 
-// The mark of a key, held or open, behind two blanks; blanks alone where there is no such key.
-fn mark(p: Page, held: &[bool; 104], row: u8, col: u8) -> Page {
+// The sign of a key, held or open; a blank where there is no such key.
+fn sign(held: &[bool; 104], row: u8, col: u8) -> u8 {
     let key = keys::key_at(Row(row), Col(col));
     if keys::NO_KEY <= key {
-        return out::text(p, b"   ");
+        return b' ';
     }
     if held[key] {
-        return out::text(p, b"  #");
+        return b'#';
     }
-    out::text(p, b"  .")
+    b'.'
+}
+
+// The mark of a key: its sign behind two blanks.
+fn mark(p: Page, held: &[bool; 104], row: u8, col: u8) -> Page {
+    let words = [b' ', b' ', sign(held, row, col)];
+    out::text(p, &words)
 }
 
 // The line above the keys, with the labels of the first columns.
@@ -66,11 +72,6 @@ fn codes(p: Page, queue: [u8; 15], count: u8) -> Page {
     out::listed(out::text(p, b"waiting:"), &queue[0..n])
 }
 
-// A name and a register's byte.
-fn register(p: Page, name: &[u8], byte: u8) -> Page {
-    out::hex(out::text(p, name), byte)
-}
-
 // A name and a flag.
 fn flag(p: Page, name: &[u8], set: bool) -> Page {
     out::decimal(out::text(p, name), set as u32)
@@ -80,19 +81,19 @@ fn flag(p: Page, name: &[u8], set: bool) -> Page {
 fn interrupts(p: Page, m: Module) -> Page {
     let ris = flags::ris(m.relint, m.count, m.rklint, m.rsint);
     let mis = flags::mis(m.relint, m.count, m.rklint, m.rsint, m.mask);
-    let byte = register(p, b"\nKBDRIS ", ris);
+    let byte = out::hex(p, b"\nKBDRIS ", ris);
     let relint = flag(byte, b": RELINT ", m.relint);
     let revtint = flag(relint, b", REVTINT ", 0 < m.count);
     let rklint = flag(revtint, b", RKLINT ", m.rklint);
     let rsint = flag(rklint, b", RSINT ", m.rsint);
-    register(rsint, b"\nKBDMIS ", mis)
+    out::hex(rsint, b"\nKBDMIS ", mis)
 }
 
 // The settings, and the power-on interrupt.
 fn settings(p: Page, m: Module) -> Page {
-    let bounce = register(p, b"\nKBDBOUNCE ", m.bounce);
-    let size = register(bounce, b", KBDSIZE ", m.size);
-    let mask = register(size, b", KBDMSK ", m.mask);
+    let bounce = out::hex(p, b"\nKBDBOUNCE ", m.bounce);
+    let size = out::hex(bounce, b", KBDSIZE ", m.size);
+    let mask = out::hex(size, b", KBDMSK ", m.mask);
     flag(mask, b"\nPORIRQ ", m.porirq)
 }
 

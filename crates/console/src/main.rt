@@ -4,13 +4,12 @@ mod draw;
 mod out;
 mod perform;
 mod reply;
+mod session;
 
 use libc::STDIN_FILENO;
-use perform::Answer;
-use state::Module;
+use session::Session;
 use text::number::Fault;
 use text::page;
-use text::page::Page;
 ghost use Prim.Native.Nat.{_≤_, _<_};
 ghost use lib.ListN.{length};
 
@@ -21,15 +20,10 @@ const NEWLINE: u8 = 10;
 
 const RETURN: u8 = 13;
 
-// What is kept from one piece of input to the next.
-struct Session {
-    panel: Module,
-    // the answers that are not written out yet
-    page: Page,
-    // the bytes held of the line that has not ended, or TOO_LONG
-    held: usize,
-    // is there more to come, and could every answer be written?
-    on: bool,
+// The bytes that have arrived, and whether more may come.
+struct Received {
+    count: usize,
+    more: bool,
 }
 
 // Where the line that begins at a place of the input ends: past its newline, or at the input's end.
@@ -89,40 +83,16 @@ fn without_return(line: &[u8], held: usize) -> usize
     held
 }
 
-// The session after an answer.
-fn answered(s: Session, answer: Answer) -> Session {
-    let after = answer.after;
-    let page = answer.page;
-    Session {
-        panel: after,
-        page: page,
-        held: 0,
-        on: s.on,
-    }
-}
-
-// Answers a line.
-fn reply_to(s: Session, line: &[u8], values: &mut [u16; 8192], bytes: &mut [u8; 8192]) -> Session {
-    let panel = s.panel;
-    let page = s.page;
-    if perform::is_nothing(line) {
-        let mut next = s;
-        next.held = 0;
-        return next;
-    }
-    answered(s, perform::perform(page, panel, line, values, bytes))
-}
-
 // Answers the line that has ended.
 fn end_line(s: Session, line: &[u8], values: &mut [u16; 8192], bytes: &mut [u8; 8192]) -> Session {
     let held = s.held;
+    let mut next = s;
+    next.held = 0;
     if line.len() < held {
-        let panel = s.panel;
-        let page = s.page;
-        return answered(s, perform::refused(page, panel, Fault::TooLong));
+        return reply::refused(next, Fault::TooLong);
     }
     let end = without_return(line, held);
-    reply_to(s, &line[0..end], values, bytes)
+    perform::perform(next, &line[0..end], values, bytes)
 }
 
 // Takes in a part of a line, with its newline where it has one.
@@ -159,31 +129,33 @@ fn feed(
     session
 }
 
-// Writes out the answers.
-fn written(s: Session) -> Session {
+// Writes out the answers, and tells whether there is more to come.
+fn written(s: Session, more: bool) -> Session {
     let page = out::written(s.page);
     let mut next = s;
-    next.on = s.on & page.ok;
+    next.on = more & page.ok;
     next.page = page;
     next
 }
 
-// The end of the input: a final line without a newline counts.
-fn finish(s: Session, line: &[u8], values: &mut [u16; 8192], bytes: &mut [u8; 8192]) -> Session {
-    let mut last = s;
-    if 0 < s.held {
-        last = written(end_line(s, line, values, bytes));
-    }
-    last.on = false;
-    last
-}
-
-// Waits for input, and tells how many bytes have arrived.
-fn receive(input: &mut [u8]) -> usize
-    ensures { λ r. ⌜ r ≤ length (now (input .exit)) ⌝ }
+// Waits for input. At its end a newline comes, since a final line without one counts.
+fn receive(input: &mut [u8]) -> Received
+    requires { ⌜ 1 ≤ length (now input) ⌝ }
+    ensures { λ r. ⌜ r .count ≤ length (now (input .exit)) ⌝ }
 {
     let got = libc::read(STDIN_FILENO, input);
-    io::count(got, input)
+    let count = io::count(got, input);
+    if count < 1 {
+        input[0] = NEWLINE;
+        return Received {
+            count: 1,
+            more: false,
+        };
+    }
+    Received {
+        count: count,
+        more: true,
+    }
 }
 
 // Waits for input, and answers every line that has arrived.
@@ -193,12 +165,12 @@ fn turn(
     line: &mut [u8; 16384],
     values: &mut [u16; 8192],
     bytes: &mut [u8; 8192],
-) -> Session {
-    let n = receive(input);
-    if n < 1 {
-        return finish(s, line, values, bytes);
-    }
-    written(feed(s, &input[0..n], line, values, bytes))
+) -> Session
+    requires { ⌜ 1 ≤ length (now input) ⌝ }
+{
+    let received = receive(input);
+    let n = received.count;
+    written(feed(s, &input[0..n], line, values, bytes), received.more)
 }
 
 fn main() {

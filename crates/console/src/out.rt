@@ -59,9 +59,9 @@ pub(crate) fn listed(p: Page, bytes: &[u8]) -> Page {
     next
 }
 
-// Writes a byte in base 16.
-pub(crate) fn hex(p: Page, byte: u8) -> Page {
-    page::hex(room(p, 2), byte)
+// Writes a name, and a byte in base 16.
+pub(crate) fn hex(p: Page, name: &[u8], byte: u8) -> Page {
+    page::hex(room(text(p, name), 2), byte)
 }
 
 // Writes a number in base 10.

@@ -3,52 +3,20 @@ use crate::commands;
 use crate::commands::Heard;
 use crate::commands::Pair;
 use crate::draw;
-use crate::reply;
-use calls::Answered;
-use calls::Done;
+use crate::reply::bytes_read;
+use crate::reply::question;
+use crate::reply::refused;
+use crate::reply::told;
+use crate::session::Session;
 use keys::Col;
 use keys::Row;
-use state::Module;
 use text::number::Fault;
-use text::page::Page;
 use text::word::is_same;
 use text::word::word_from;
 ghost use Prim.Native.Nat.{_≤_};
 ghost use lib.ListN.{length};
 
 const COMMENT: u8 = b'#';
-
-// The panel after a command, and the page with the end of its answer.
-pub(crate) struct Answer {
-    pub after: Module,
-    pub page: Page,
-}
-
-// The answer of a call that is told by its number.
-fn told(p: Page, done: Done) -> Answer {
-    let after = done.after;
-    Answer {
-        after: after,
-        page: reply::numbered(p, done.number),
-    }
-}
-
-// The answer of a question.
-fn question(p: Page, answered: Answered) -> Answer {
-    let after = answered.after;
-    Answer {
-        after: after,
-        page: reply::question(p, answered.number, answered.yes),
-    }
-}
-
-// The answer of a line with something wrong.
-pub(crate) fn refused(p: Page, m: Module, fault: Fault) -> Answer {
-    Answer {
-        after: m,
-        page: reply::refusal(p, fault),
-    }
-}
 
 // Numbers as bytes.
 fn narrow(values: &[u16], bytes: &mut [u8])
@@ -62,175 +30,168 @@ fn narrow(values: &[u16], bytes: &mut [u8])
 }
 
 // `look S0 S1 ..`
-fn look(p: Page, m: Module, rest: &[u8], values: &mut [u16]) -> Answer {
+fn look(s: Session, rest: &[u8], values: &mut [u16]) -> Session {
     let listed = commands::list_of(rest, 0xFFFF, values);
     let count = listed.count;
     let heard = listed.heard;
     match heard {
-        Heard::Wrong(fault) => refused(p, m, fault),
-        Heard::Well => told(p, calls::look(m, &values[0..count])),
+        Heard::Wrong(fault) => refused(s, fault),
+        Heard::Well => told(s, calls::look(s.panel, &values[0..count])),
     }
 }
 
 // `write AA B0 B1 ..`
-fn write(p: Page, m: Module, rest: &[u8], values: &mut [u16], bytes: &mut [u8]) -> Answer
+fn write(s: Session, rest: &[u8], values: &mut [u16], bytes: &mut [u8]) -> Session
     requires { ⌜ length (now values) ≤ length (now bytes) ⌝ }
 {
-    let listed = commands::bytes_of(rest, values);
+    let listed = commands::list_of(rest, 0xFF, values);
     let count = listed.count;
     let heard = listed.heard;
     match heard {
-        Heard::Wrong(fault) => refused(p, m, fault),
-        Heard::Well => write_list(p, m, &values[0..count], bytes),
+        Heard::Wrong(fault) => refused(s, fault),
+        Heard::Well => write_list(s, &values[0..count], bytes),
     }
 }
 
 // A write of the bytes of a list, to the address in front of them.
-fn write_list(p: Page, m: Module, values: &[u16], bytes: &mut [u8]) -> Answer
+fn write_list(s: Session, values: &[u16], bytes: &mut [u8]) -> Session
     requires { ⌜ length (now values) ≤ length (now bytes) ⌝ }
 {
     let n = values.len();
     if n < 1 {
-        return refused(p, m, Fault::TooFew);
+        return refused(s, Fault::TooFew);
     }
     narrow(values, bytes);
-    told(p, calls::write(m, bytes[0], &bytes[1..n]))
+    told(s, calls::write(s.panel, bytes[0], &bytes[1..n]))
 }
 
 // `read AA COUNT`
-fn read(p: Page, m: Module, rest: &[u8], bytes: &mut [u8]) -> Answer {
+fn read(s: Session, rest: &[u8], bytes: &mut [u8]) -> Session {
     let pair = commands::pair_of(rest, 16, 1024);
     match pair {
-        Pair::Wrong(fault) => refused(p, m, fault),
-        Pair::Numbers(first, count) => read_bytes(p, m, (first % 256) as u8, count as usize, bytes),
+        Pair::Wrong(fault) => refused(s, fault),
+        Pair::Numbers(first, count) => read_bytes(s, (first % 256) as u8, count as usize, bytes),
     }
 }
 
 // A read of so many bytes from an address on.
-fn read_bytes(p: Page, m: Module, first: u8, count: usize, bytes: &mut [u8]) -> Answer {
+fn read_bytes(s: Session, first: u8, count: usize, bytes: &mut [u8]) -> Session {
     let n = text::page::least(count, bytes.len());
-    let done = calls::read(m, first, &mut bytes[0..n]);
-    let after = done.after;
-    Answer {
-        after: after,
-        page: reply::bytes_read(p, done.number, &bytes[0..n]),
-    }
+    let done = calls::read(s.panel, first, &mut bytes[0..n]);
+    bytes_read(s, done, &bytes[0..n])
 }
 
 // `held ROW COL`
-fn held(p: Page, m: Module, rest: &[u8]) -> Answer {
+fn held(s: Session, rest: &[u8]) -> Session {
     let pair = commands::pair_of(rest, 10, 0xFF);
     match pair {
-        Pair::Wrong(fault) => refused(p, m, fault),
+        Pair::Wrong(fault) => refused(s, fault),
         Pair::Numbers(row, col) => {
             question(
-                p,
-                calls::held(m, Row((row % 256) as u8), Col((col % 256) as u8)),
+                s,
+                calls::held(s.panel, Row((row % 256) as u8), Col((col % 256) as u8)),
             )
         }
     }
 }
 
 // `irq`
-fn irq(p: Page, m: Module, rest: &[u8]) -> Answer {
+fn irq(s: Session, rest: &[u8]) -> Session {
     if !commands::is_empty(rest) {
-        return refused(p, m, Fault::TooMany);
+        return refused(s, Fault::TooMany);
     }
-    question(p, calls::interrupt(m))
+    question(s, calls::interrupt(s.panel))
 }
 
 // `reset`
-fn reset(p: Page, m: Module, rest: &[u8]) -> Answer {
+fn reset(s: Session, rest: &[u8]) -> Session {
     if !commands::is_empty(rest) {
-        return refused(p, m, Fault::TooMany);
+        return refused(s, Fault::TooMany);
     }
-    told(p, calls::reset())
+    told(s, calls::reset())
 }
 
 // `show`
-fn show(p: Page, m: Module, rest: &[u8]) -> Answer {
+fn show(s: Session, rest: &[u8]) -> Session {
     if !commands::is_empty(rest) {
-        return refused(p, m, Fault::TooMany);
+        return refused(s, Fault::TooMany);
     }
-    Answer {
-        after: m,
-        page: draw::show(p, m),
-    }
+    let mut next = s;
+    next.page = draw::show(s.page, s.panel);
+    next
 }
 
 // `help`
-fn help(p: Page, m: Module, rest: &[u8]) -> Answer {
+fn help(s: Session, rest: &[u8]) -> Session {
     if !commands::is_empty(rest) {
-        return refused(p, m, Fault::TooMany);
+        return refused(s, Fault::TooMany);
     }
-    Answer {
-        after: m,
-        page: draw::help(p),
-    }
+    let mut next = s;
+    next.page = draw::help(s.page);
+    next
 }
 
-// Does a line ask for nothing? A blank line and a comment do.
-pub(crate) fn is_nothing(line: &[u8]) -> bool {
-    let w = word_from(line, 0);
-    let start = w.start;
-    if w.start == w.end {
-        return true;
-    }
-    line[start] == COMMENT
-}
-
-// The commands that need no list; no other word is a command.
-fn listless(p: Page, m: Module, word: &[u8], rest: &[u8]) -> Answer {
-    if is_same(word, b"held") {
-        return held(p, m, rest);
-    }
-    if is_same(word, b"irq") {
-        return irq(p, m, rest);
-    }
-    if is_same(word, b"reset") {
-        return reset(p, m, rest);
-    }
+// The commands that answer with a text; no other word is a command.
+fn with_text(s: Session, word: &[u8], rest: &[u8]) -> Session {
     if is_same(word, b"show") {
-        return show(p, m, rest);
+        return show(s, rest);
     }
     if is_same(word, b"help") {
-        return help(p, m, rest);
+        return help(s, rest);
     }
-    refused(p, m, Fault::Unknown)
+    refused(s, Fault::Unknown)
+}
+
+// The commands that need no list.
+fn listless(s: Session, word: &[u8], rest: &[u8]) -> Session {
+    if is_same(word, b"held") {
+        return held(s, rest);
+    }
+    if is_same(word, b"irq") {
+        return irq(s, rest);
+    }
+    if is_same(word, b"reset") {
+        return reset(s, rest);
+    }
+    with_text(s, word, rest)
 }
 
 // Does the command that a word names, with the words behind it, and answers it. Each group of commands has a function, since the check of many arms in one grows with their square.
 fn named(
-    p: Page,
-    m: Module,
+    s: Session,
     word: &[u8],
     rest: &[u8],
     values: &mut [u16; 8192],
     bytes: &mut [u8; 8192],
-) -> Answer {
+) -> Session {
     if is_same(word, b"look") {
-        return look(p, m, rest, values);
+        return look(s, rest, values);
     }
     if is_same(word, b"read") {
-        return read(p, m, rest, bytes);
+        return read(s, rest, bytes);
     }
     if is_same(word, b"write") {
-        return write(p, m, rest, values, bytes);
+        return write(s, rest, values, bytes);
     }
-    listless(p, m, word, rest)
+    listless(s, word, rest)
 }
 
-// Does the command of a line and answers it; its numbers go to the lists.
+// Does the command of a line and answers it; its numbers go to the lists. A blank line and a comment ask for nothing.
 pub(crate) fn perform(
-    p: Page,
-    m: Module,
+    s: Session,
     line: &[u8],
     values: &mut [u16; 8192],
     bytes: &mut [u8; 8192],
-) -> Answer {
+) -> Session {
     let w = word_from(line, 0);
     let start = w.start;
     let end = w.end;
+    if start == end {
+        return s;
+    }
+    if line[start] == COMMENT {
+        return s;
+    }
     let n = line.len();
-    named(p, m, &line[start..end], &line[end..n], values, bytes)
+    named(s, &line[start..end], &line[end..n], values, bytes)
 }

@@ -26,7 +26,8 @@ use Rattle.demands.specs.Table.{First, rules}
 pub record Demand1 (M : Machine) : Type 0 where
   -- of every state whose parts are values of their types
   pub exact : (σ : M .State) → Typed (M .parts σ) → (c : Call) → First (rules M σ c) (M .does σ c .number)
-  pub declined : (σ : M .State) (c : Call) → (M .does σ c .number ≡ 0 → ⊥) → (M .does σ c .next ≡ σ) × ((M .does σ c .buffer ≡ lent c) × (M .does σ c .answer ≡ false))
+  pub declined : (σ : M .State) (c : Call) → (M .does σ c .number ≡ 0 → ⊥)
+      → (M .does σ c .next ≡ σ) × ((M .does σ c .buffer ≡ lent c) × (M .does σ c .answer ≡ false))
 
 -- "Number 8 is given exactly otherwise, and never for a state reached by calls from reset." Nor does a change fall on a key out of the size
 pub record NeverUnsound (M : Machine) : Type 0 where
@@ -53,7 +54,8 @@ pub record Demand2 (M : Machine) : Type 0 where
 pub record Demand3 (M : Machine) : Type 0 where
   pub ledger : (cs : List Call) → all fits cs ≡ true → fetched M cs ++ seen M (after M cs) ≡ kept (arrivals (done M cs))
   -- a byte of EVTCODE is 0x7F only when nothing waits
-  pub progress : (cs : List Call) → all fits cs ≡ true → M .does (after M cs) (read 0x10 (0 ∷ [])) .buffer ≡ 0x7F ∷ [] → fetched M cs ≡ kept (arrivals (done M cs))
+  pub progress : (cs : List Call) → all fits cs ≡ true → M .does (after M cs) (read 0x10 (0 ∷ [])) .buffer ≡ 0x7F ∷ []
+      → fetched M cs ≡ kept (arrivals (done M cs))
   pub replay : (cs : List Call) → all fits cs ≡ true → lost (arrivals (done M cs)) ≡ []
       → (row col : ℕ) → row ≤ 7 → col ≤ 12
       → replayed (13 * row + col) false (fetched M cs ++ seen M (after M cs)) ≡ M .does (after M cs) (held row col) .answer

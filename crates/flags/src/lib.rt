@@ -3,11 +3,11 @@ use state::Module;
 ghost use mathlib.Core.Path.{_≡_};
 ghost use Prim.Native.Nat.{_≤_, _+_};
 ghost use Rattle.words.specs.Words.{without};
-ghost use Rattle.flags.specs.Flags as is;
+ghost use Rattle.flags.specs.Flags.{line, misOf, risOf, weigh};
 
 // A flag's weight where it is set, else 0.
 fn weigh(flag: bool, weight: u8) -> u8
-    ensures { λ r. ⌜ (r ≡ is.weigh flag weight) × (r ≤ weight) ⌝ }
+    ensures { λ r. ⌜ (r ≡ weigh flag weight) × (r ≤ weight) ⌝ }
 {
     if flag {
         return weight;
@@ -17,7 +17,7 @@ fn weigh(flag: bool, weight: u8) -> u8
 
 // Four flags as the bits 3 to 0 of a byte.
 fn byte(relint: bool, revtint: bool, rklint: bool, rsint: bool) -> u8
-    ensures { λ r. ⌜ r ≡ is.weigh relint 8 + is.weigh revtint 4 + is.weigh rklint 2 + is.weigh rsint 1 ⌝ }
+    ensures { λ r. ⌜ r ≡ weigh relint 8 + weigh revtint 4 + weigh rklint 2 + weigh rsint 1 ⌝ }
 {
     weigh(relint, 8) + weigh(revtint, 4) + weigh(rklint, 2) + weigh(rsint, 1)
 }
@@ -35,14 +35,14 @@ pub fn cleared(flag: bool, bit: u8, byte: u8) -> bool
 
 // What KBDRIS reads, by the parts of the state that it shows.
 pub fn ris(relint: bool, count: u8, rklint: bool, rsint: bool) -> u8
-    ensures { λ r. ⌜ r ≡ is.risOf relint count rklint rsint ⌝ }
+    ensures { λ r. ⌜ r ≡ risOf relint count rklint rsint ⌝ }
 {
     byte(relint, 0 < count, rklint, rsint)
 }
 
 // What KBDMIS reads, by the same parts and the mask.
 pub fn mis(relint: bool, count: u8, rklint: bool, rsint: bool, mask: u8) -> u8
-    ensures { λ r. ⌜ r ≡ is.misOf relint count rklint rsint mask ⌝ }
+    ensures { λ r. ⌜ r ≡ misOf relint count rklint rsint mask ⌝ }
 {
     byte(
         cleared(relint, 3, mask),
@@ -54,7 +54,7 @@ pub fn mis(relint: bool, count: u8, rklint: bool, rsint: bool, mask: u8) -> u8
 
 // Is the interrupt line asserted?
 pub fn line(m: Module) -> bool
-    ensures { λ r. ⌜ r ≡ is.line m ⌝ }
+    ensures { λ r. ⌜ r ≡ line m ⌝ }
 {
     let porirq = m.porirq;
     if porirq {

@@ -5,11 +5,11 @@ ghost use lib.ListN.{length, set, drop};
 ghost use Prim.Native.Nat.{_≤_};
 ghost use Rattle.state.specs.declared.Module.{Module};
 ghost use Rattle.state.specs.Module.{withRsint, withSeen};
-ghost use Rattle.picture.specs.Picture as is;
+ghost use Rattle.picture.specs.Picture.{allRead, heldCodes, marked, more, picture};
 
 // Are all four registers marked as read?
 pub fn all_read(seen: [bool; 4]) -> bool
-    ensures { λ r. ⌜ r ≡ is.allRead seen ⌝ }
+    ensures { λ r. ⌜ r ≡ allRead seen ⌝ }
 {
     if !seen[0] {
         return false;
@@ -38,7 +38,9 @@ fn with_mark(seen: [bool; 4], n: u8) -> [bool; 4]
 
 // Picture register n has been read: it is marked; once all four are, RSINT is cleared and they are forgotten.
 pub fn mark(rsint: &mut bool, seen: &mut [bool; 4], n: u8)
-    ensures { λ _. ⌜ ((m : Module) → withSeen (withRsint m (now (rsint .exit))) (now (seen .exit)) ≡ is.marked (withSeen (withRsint m (now (rsint .entry))) (now (seen .entry))) n) ⌝ }
+    ensures { λ _. ⌜ ((m : Module) →
+        withSeen (withRsint m (now (rsint .exit))) (now (seen .exit))
+        ≡ marked (withSeen (withRsint m (now (rsint .entry))) (now (seen .entry))) n) ⌝ }
 {
     let old = *seen;
     let marks = with_mark(old, n);
@@ -53,7 +55,7 @@ pub fn mark(rsint: &mut bool, seen: &mut [bool; 4], n: u8)
 // Is a key from this one on held? 128 where one is, else 0.
 fn more(table: &[bool], from: usize) -> u8
     requires { ⌜ length (now table) ≡ 104 ⌝ }
-    ensures { λ r. ⌜ (r ≡ is.more (is.heldCodes from (drop from (now (table .entry))))) × (r ≤ 128) ⌝ }
+    ensures { λ r. ⌜ (r ≡ more (heldCodes from (drop from (now (table .entry))))) × (r ≤ 128) ⌝ }
 {
     let mut k = from;
     while k < 104 {
@@ -68,7 +70,7 @@ fn more(table: &[bool], from: usize) -> u8
 // What picture register n shows of a table of held keys.
 fn shown(table: &[bool], n: u8) -> u8
     requires { ⌜ length (now table) ≡ 104 ⌝ }
-    ensures { λ r. ⌜ r ≡ is.picture n (now (table .entry)) ⌝ }
+    ensures { λ r. ⌜ r ≡ picture n (now (table .entry)) ⌝ }
 {
     let mut k: usize = 0;
     let mut rest = n;
@@ -86,7 +88,7 @@ fn shown(table: &[bool], n: u8) -> u8
 
 // What picture register n shows.
 pub fn picture(held: &[bool; 104], n: u8) -> u8
-    ensures { λ r. ⌜ r ≡ is.picture n (now (held .entry)) ⌝ }
+    ensures { λ r. ⌜ r ≡ picture n (now (held .entry)) ⌝ }
 {
     // a slice's length is known
     let table: &[bool] = held;

@@ -35,7 +35,9 @@ counted x size row col = bit col x if inSize size row col else false
 
 -- the parts p, key k's contact having become x
 abbrev pub became : ℕ → Bool → Parts → Contact → Parts
-became k closed p x = parts (set (p .held) k (x .held)) (set (p .run) k (x .run)) (put (p .queue) (code k closed) if x .changed else p .queue) (p .any || x .changed)
+became k closed p x =
+    parts (set (p .held) k (x .held)) (set (p .run) k (x .run))
+    (put (p .queue) (code k closed) if x .changed else p .queue) (p .any || x .changed)
 
 unfoldable pub atKey : ℕ → ℕ → Bool → Parts → Parts
 atKey d k closed p = became k closed p (stepped (getD (p .held) k false) (getD (p .run) k 0) closed d)

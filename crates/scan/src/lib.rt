@@ -11,7 +11,7 @@ ghost use Rattle.words.specs.Words.{allBelow};
 ghost use Rattle.keys.specs.Keys.{inSize};
 ghost use Rattle.contact.specs.Contact.{stepped};
 ghost use Rattle.state.specs.Module.{queue};
-ghost use Rattle.scan.specs.Scan as is;
+ghost use Rattle.scan.specs.Scan.{looked, noticed, strays};
 ghost use Rattle.scan.specs.Walk as walk;
 ghost use Rattle.scan.specs.Walk.{parts};
 
@@ -41,7 +41,10 @@ fn look_at(
     bounce: u8,
 )
     requires { ⌜ (row .0 < 8) × (col .0 < 13) ⌝ }
-    ensures { λ _. ⌜ parts (now (held .exit)) (now (run .exit)) (queue (now (places .exit)) (now (count .exit)) (now (relint .exit))) (now (any .exit)) ≡ walk.atKey bounce (13 * row .0 + col .0) closed (parts (now (held .entry)) (now (run .entry)) (queue (now (places .entry)) (now (count .entry)) (now (relint .entry))) (now (any .entry))) ⌝ }
+    ensures { λ _. ⌜
+        parts (now (held .exit)) (now (run .exit)) (queue (now (places .exit)) (now (count .exit)) (now (relint .exit))) (now (any .exit))
+        ≡ walk.atKey bounce (13 * row .0 + col .0) closed
+        (parts (now (held .entry)) (now (run .entry)) (queue (now (places .entry)) (now (count .entry)) (now (relint .entry))) (now (any .entry))) ⌝ }
 {
     let r = row.0;
     let c = col.0;
@@ -72,7 +75,10 @@ fn look_at_row(
     bounce: u8,
 )
     requires { ⌜ row < 8 ⌝ }
-    ensures { λ _. ⌜ parts (now (held .exit)) (now (run .exit)) (queue (now (places .exit)) (now (count .exit)) (now (relint .exit))) (now (any .exit)) ≡ walk.atRow bounce size sample row (parts (now (held .entry)) (now (run .entry)) (queue (now (places .entry)) (now (count .entry)) (now (relint .entry))) (now (any .entry))) 13 ⌝ }
+    ensures { λ _. ⌜
+        parts (now (held .exit)) (now (run .exit)) (queue (now (places .exit)) (now (count .exit)) (now (relint .exit))) (now (any .exit))
+        ≡ walk.atRow bounce size sample row
+        (parts (now (held .entry)) (now (run .entry)) (queue (now (places .entry)) (now (count .entry)) (now (relint .entry))) (now (any .entry))) 13 ⌝ }
 {
     let mut col: u8 = 0;
     while col < 13 {
@@ -95,7 +101,7 @@ fn look_at_row(
 
 // What a look with at least one change does to the flags and the marks.
 fn noticed(m: Module) -> Module
-    ensures { λ r. ⌜ r ≡ is.noticed m ⌝ }
+    ensures { λ r. ⌜ r ≡ noticed m ⌝ }
 {
     let mut after = m;
     after.rklint = m.rklint | m.rsint;
@@ -107,7 +113,7 @@ fn noticed(m: Module) -> Module
 // What one look does to a module. Rows out of the size are still, and are not walked.
 pub fn looked(m: Module, samples: &[u16]) -> Module
     requires { ⌜ (length (now samples) ≡ 8) × walk.Still m ⌝ }
-    ensures { λ r. ⌜ r ≡ is.looked m (now (samples .entry)) ⌝ }
+    ensures { λ r. ⌜ r ≡ looked m (now (samples .entry)) ⌝ }
 {
     let mut held = m.held;
     let mut run = m.run;
@@ -192,7 +198,7 @@ fn row_has_strays<'a>(
 
 // Does a change fall on a key out of the size? Samples there count as open, whatever they are.
 pub fn has_strays(m: Module) -> bool
-    ensures { λ r. ⌜ ((samples : List ℕ) → r ≡ is.strays m samples) ⌝ }
+    ensures { λ r. ⌜ ((samples : List ℕ) → r ≡ strays m samples) ⌝ }
 {
     let mut row: u8 = 0;
     while row < 8 {

@@ -12,7 +12,7 @@ use Rattle.words.specs.Words.{all}
 use Rattle.keys.specs.Keys.{keyAt}
 use Rattle.state.specs.declared.Module.{Module}
 use Rattle.state.specs.Module.{fresh, restarted, queue, withKeys, withQueue, withBounce, withMask, withRklint, withRelint, withSeen}
-use Rattle.sound.specs.Sound as is
+use Rattle.sound.specs.Sound as soundness
 use Rattle.sound.proofs.Opened.{opened}
 
 record Entry : Type 0 where
@@ -106,7 +106,7 @@ examples =
     ∷ []
 
 abbrev right : Entry → Bool
-right e = Bool·beq (is.sound (e .state)) (e .expected)
+right e = Bool·beq (soundness.sound (e .state)) (e .expected)
 
 examples-right : (length examples ≡ 40) × (all right examples ≡ true)
 unfolding opened

@@ -9,7 +9,7 @@ ghost use lib.Dec.{eqb};
 ghost use Rattle.words.specs.Words.{allBelow};
 ghost use Rattle.keys.specs.Keys.{acceptable, inSize};
 ghost use Rattle.state.specs.Module.{queue};
-ghost use Rattle.sound.specs.Sound as is;
+ghost use Rattle.sound.specs.Sound.{codesSound, contactSound, keysSound, placeSound, restUnused, sound};
 
 // Is a key open, with no run?
 fn at_rest(held: bool, run: u8) -> bool
@@ -23,7 +23,7 @@ fn at_rest(held: bool, run: u8) -> bool
 
 // What is asked of one key. Most are at rest, and need no look at the size.
 fn key_sound(size: u8, row: Row, col: Col, held: bool, run: u8) -> bool
-    ensures { λ r. ⌜ r ≡ is.contactSound (inSize size (row .0) (col .0)) held run ⌝ }
+    ensures { λ r. ⌜ r ≡ contactSound (inSize size (row .0) (col .0)) held run ⌝ }
 {
     if 254 < run {
         return false;
@@ -37,7 +37,7 @@ fn key_sound(size: u8, row: Row, col: Col, held: bool, run: u8) -> bool
 // What is asked of the keys of a row.
 fn row_sound<'a>(size: u8, row: u8, held: &'a [bool; 104], run: &'a [u8; 104]) -> bool
     requires { ⌜ row < 8 ⌝ }
-    ensures { λ r. ⌜ r ≡ allBelow (is.placeSound size row (now (held .entry)) (now (run .entry))) 13 ⌝ }
+    ensures { λ r. ⌜ r ≡ allBelow (placeSound size row (now (held .entry)) (now (run .entry))) 13 ⌝ }
 {
     let mut col: u8 = 0;
     while col < 13 {
@@ -52,7 +52,7 @@ fn row_sound<'a>(size: u8, row: u8, held: &'a [bool; 104], run: &'a [u8; 104]) -
 
 // What is asked of all keys.
 fn keys_sound<'a>(size: u8, held: &'a [bool; 104], run: &'a [u8; 104]) -> bool
-    ensures { λ r. ⌜ r ≡ is.keysSound size (now (held .entry)) (now (run .entry)) ⌝ }
+    ensures { λ r. ⌜ r ≡ keysSound size (now (held .entry)) (now (run .entry)) ⌝ }
 {
     let mut row: u8 = 0;
     while row < 8 {
@@ -67,7 +67,7 @@ fn keys_sound<'a>(size: u8, held: &'a [bool; 104], run: &'a [u8; 104]) -> bool
 // What is asked of the codes that wait.
 fn codes_sound(size: u8, places: &[u8; 15], count: u8) -> bool
     requires { ⌜ acceptable size ≡ true ⌝ }
-    ensures { λ r. ⌜ r ≡ is.codesSound size (queue (now (places .entry)) count false) ⌝ }
+    ensures { λ r. ⌜ r ≡ codesSound size (queue (now (places .entry)) count false) ⌝ }
 {
     // a slice's length is known
     let bytes: &[u8] = places;
@@ -86,7 +86,7 @@ fn codes_sound(size: u8, places: &[u8; 15], count: u8) -> bool
 
 // What is asked of the places after them.
 fn rest_unused(places: &[u8; 15], count: u8) -> bool
-    ensures { λ r. ⌜ r ≡ is.restUnused (queue (now (places .entry)) count false) ⌝ }
+    ensures { λ r. ⌜ r ≡ restUnused (queue (now (places .entry)) count false) ⌝ }
 {
     // a slice's length is known
     let bytes: &[u8] = places;
@@ -102,7 +102,7 @@ fn rest_unused(places: &[u8; 15], count: u8) -> bool
 
 // Is the state sound?
 pub fn is_sound(m: Module) -> bool
-    ensures { λ r. ⌜ r ≡ is.sound m ⌝ }
+    ensures { λ r. ⌜ r ≡ sound m ⌝ }
 {
     let size = m.size;
     let count = m.count;

@@ -2,7 +2,7 @@
 pub mod queue;
 
 ghost use mathlib.Core.Path.{_≡_};
-ghost use Rattle.state.specs.Module as is;
+ghost use Rattle.state.specs.Module.{fresh, restarted};
 
 // Key k is 13 × row + column. REVTINT, KBDMIS and the interrupt line are worked out, never stored.
 #[repr(C)]
@@ -31,7 +31,7 @@ pub struct Module {
 
 // The state after reset.
 pub fn fresh() -> Module
-    ensures { λ r. ⌜ r ≡ is.fresh ⌝ }
+    ensures { λ r. ⌜ r ≡ fresh ⌝ }
 {
     Module {
         held: [false; 104],
@@ -51,7 +51,7 @@ pub fn fresh() -> Module
 
 // The state after an accepted write of KBDSIZE.
 pub fn restarted(m: Module, size: u8) -> Module
-    ensures { λ r. ⌜ r ≡ is.restarted m size ⌝ }
+    ensures { λ r. ⌜ r ≡ restarted m size ⌝ }
 {
     let mut next = fresh();
     next.bounce = m.bounce;

@@ -2,12 +2,12 @@
 ghost use mathlib.Core.Path.{_≡_};
 ghost use mathlib.Core.Bool.{Bool};
 ghost use Rattle.state.specs.Module.{queue};
-ghost use Rattle.state.specs.Queue as is;
+ghost use Rattle.state.specs.Queue.{oldest, put, shifted, taken};
 
 // A code goes behind those that wait, or is dropped where 15 do.
 pub fn put(places: &mut [u8; 15], count: &mut u8, relint: &mut bool, code: u8)
     ensures { λ _. ⌜ queue (now (places .exit)) (now (count .exit)) (now (relint .exit))
-        ≡ is.put (queue (now (places .entry)) (now (count .entry)) (now (relint .entry))) code ⌝ }
+        ≡ put (queue (now (places .entry)) (now (count .entry)) (now (relint .entry))) code ⌝ }
 {
     let at = *count;
     if at < 15 {
@@ -20,7 +20,7 @@ pub fn put(places: &mut [u8; 15], count: &mut u8, relint: &mut bool, code: u8)
 
 // The places with the first code gone and each other one place down.
 fn shifted(places: [u8; 15]) -> [u8; 15]
-    ensures { λ r. ⌜ r ≡ is.shifted places ⌝ }
+    ensures { λ r. ⌜ r ≡ shifted places ⌝ }
 {
     [
         places[1],
@@ -44,8 +44,8 @@ fn shifted(places: [u8; 15]) -> [u8; 15]
 // The oldest code is taken out and given; 0x7F where none waits. RELINT stays as it is.
 pub fn take_oldest(places: &mut [u8; 15], count: &mut u8) -> u8
     ensures { λ r. ⌜ ((relint : Bool)
-        → (r ≡ is.oldest (queue (now (places .entry)) (now (count .entry)) relint))
-        × (queue (now (places .exit)) (now (count .exit)) relint ≡ is.taken (queue (now (places .entry)) (now (count .entry)) relint))) ⌝ }
+        → (r ≡ oldest (queue (now (places .entry)) (now (count .entry)) relint))
+        × (queue (now (places .exit)) (now (count .exit)) relint ≡ taken (queue (now (places .entry)) (now (count .entry)) relint))) ⌝ }
 {
     let waiting = *count;
     if waiting < 1 {

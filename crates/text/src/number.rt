@@ -2,7 +2,7 @@
 use crate::page;
 ghost use mathlib.Core.Path.{_≡_};
 ghost use Prim.Native.Nat.{_≤_};
-ghost use Rattle.text.specs.Digits as is;
+ghost use Rattle.text.specs.Digits.{digit, numberOf};
 
 // What is wrong with a line.
 pub enum Fault {
@@ -21,7 +21,7 @@ pub enum Number {
 
 // A digit's value; 16 where it is none, in either base.
 fn digit_of(byte: u8) -> usize
-    ensures { λ r. ⌜ (r ≡ is.digit byte) × (r ≤ 16) ⌝ }
+    ensures { λ r. ⌜ (r ≡ digit byte) × (r ≤ 16) ⌝ }
 {
     match byte {
         48..=57 => (byte - 48) as usize,
@@ -34,7 +34,7 @@ fn digit_of(byte: u8) -> usize
 // The number that a word's digits tell, which is at most this; a word of no digits is missing.
 pub fn number_of(word: &[u8], base: usize, most: u32) -> Number
     requires { ⌜ base ≤ 16 ⌝ }
-    ensures { λ r. ⌜ r ≡ is.numberOf base most (now (word .entry)) ⌝ }
+    ensures { λ r. ⌜ r ≡ numberOf base most (now (word .entry)) ⌝ }
 {
     if word.len() < 1 {
         return Number::Wrong(Fault::TooFew);

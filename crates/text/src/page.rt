@@ -2,7 +2,7 @@
 ghost use mathlib.Core.Path.{_≡_};
 ghost use Prim.Native.Nat.{_≤_, _<_, _+_, _*_, min};
 ghost use lib.ListN.{length};
-ghost use Rattle.text.specs.Pages as is;
+ghost use Rattle.text.specs.Pages.{glyph, listed, put, twoDigits, wrote};
 ghost use Rattle.text.specs.Digits.{lastDigits, decimal};
 
 // The bytes, of which those before a place are used. What goes on the page has room there: nothing is dropped.
@@ -37,7 +37,7 @@ pub fn empty() -> Page
 // A byte goes on the page.
 pub fn put(p: Page, byte: u8) -> Page
     requires { ⌜ p .at < 256 ⌝ }
-    ensures { λ r. ⌜ (r ≡ is.put p byte) × (r .at ≡ p .at + 1) ⌝ }
+    ensures { λ r. ⌜ (r ≡ put p byte) × (r .at ≡ p .at + 1) ⌝ }
 {
     let at = p.at;
     let mut next = p;
@@ -49,7 +49,7 @@ pub fn put(p: Page, byte: u8) -> Page
 // A text goes on the page.
 pub fn text(p: Page, words: &[u8]) -> Page
     requires { ⌜ p .at + length (now words) ≤ 256 ⌝ }
-    ensures { λ r. ⌜ r ≡ is.wrote p (now (words .entry)) ⌝ }
+    ensures { λ r. ⌜ r ≡ wrote p (now (words .entry)) ⌝ }
 {
     let mut next = p;
     let mut i: usize = 0;
@@ -62,7 +62,7 @@ pub fn text(p: Page, words: &[u8]) -> Page
 
 // A digit of base 16, in upper case.
 fn glyph(digit: u8) -> u8
-    ensures { λ r. ⌜ r ≡ is.glyph digit ⌝ }
+    ensures { λ r. ⌜ r ≡ glyph digit ⌝ }
 {
     let d = digit % 16;
     if d < 10 {
@@ -74,7 +74,7 @@ fn glyph(digit: u8) -> u8
 // A digit of base 16 goes on the page.
 fn digit(p: Page, value: u8) -> Page
     requires { ⌜ p .at < 256 ⌝ }
-    ensures { λ r. ⌜ (r ≡ is.put p (is.glyph value)) × (r .at ≡ p .at + 1) ⌝ }
+    ensures { λ r. ⌜ (r ≡ put p (glyph value)) × (r .at ≡ p .at + 1) ⌝ }
 {
     put(p, glyph(value))
 }
@@ -82,7 +82,7 @@ fn digit(p: Page, value: u8) -> Page
 // A byte's two digits of base 16 go on the page.
 pub fn hex(p: Page, byte: u8) -> Page
     requires { ⌜ p .at + 2 ≤ 256 ⌝ }
-    ensures { λ r. ⌜ (r ≡ is.wrote p (is.twoDigits byte)) × (r .at ≡ p .at + 2) ⌝ }
+    ensures { λ r. ⌜ (r ≡ wrote p (twoDigits byte)) × (r .at ≡ p .at + 2) ⌝ }
 {
     digit(digit(p, byte / 16), byte % 16)
 }
@@ -90,7 +90,7 @@ pub fn hex(p: Page, byte: u8) -> Page
 // Bytes go on the page, each behind a blank.
 pub fn listed(p: Page, bytes: &[u8]) -> Page
     requires { ⌜ p .at + length (now bytes) * 3 ≤ 256 ⌝ }
-    ensures { λ r. ⌜ r ≡ is.wrote p (is.listed (now (bytes .entry))) ⌝ }
+    ensures { λ r. ⌜ r ≡ wrote p (listed (now (bytes .entry))) ⌝ }
 {
     let mut next = p;
     let mut i: usize = 0;
@@ -104,7 +104,7 @@ pub fn listed(p: Page, bytes: &[u8]) -> Page
 // The last digits of a number in base 10 go on the page, so many or all.
 fn last_digits(p: Page, number: u32, most: u8) -> Page
     requires { ⌜ p .at + most ≤ 256 ⌝ }
-    ensures { λ r. ⌜ (r ≡ is.wrote p (lastDigits most number)) × (r .at ≤ p .at + most) ⌝ }
+    ensures { λ r. ⌜ (r ≡ wrote p (lastDigits most number)) × (r .at ≤ p .at + most) ⌝ }
 {
     if most < 1 {
         return p;
@@ -119,7 +119,7 @@ fn last_digits(p: Page, number: u32, most: u8) -> Page
 // A number's digits in base 10 go on the page, as many as it has.
 pub fn decimal(p: Page, number: u32) -> Page
     requires { ⌜ p .at + 10 ≤ 256 ⌝ }
-    ensures { λ r. ⌜ r ≡ is.wrote p (decimal number) ⌝ }
+    ensures { λ r. ⌜ r ≡ wrote p (decimal number) ⌝ }
 {
     last_digits(p, number, 10)
 }

@@ -2,7 +2,7 @@
 ghost use mathlib.Core.Path.{_≡_};
 ghost use Prim.Native.Nat.{_≤_, _+_};
 ghost use lib.ListN.{length, drop};
-ghost use Rattle.text.specs.Line as is;
+ghost use Rattle.text.specs.Line.{blank, same, upTo, wordFrom};
 
 // A word's first place and the place after its last; the same where there is no word.
 pub struct Word {
@@ -12,7 +12,7 @@ pub struct Word {
 
 // Does a byte part words?
 fn is_blank(byte: u8) -> bool
-    ensures { λ r. ⌜ r ≡ is.blank byte ⌝ }
+    ensures { λ r. ⌜ r ≡ blank byte ⌝ }
 {
     if byte == b' ' {
         return true;
@@ -23,7 +23,7 @@ fn is_blank(byte: u8) -> bool
 // The first place, from one on, that holds a blank or none; the line's end where there is no such place.
 fn first(line: &[u8], from: usize, blank: bool) -> usize
     requires { ⌜ from ≤ length (now line) ⌝ }
-    ensures { λ r. ⌜ (r ≡ from + is.upTo blank (drop from (now (line .entry)))) × (from ≤ r) × (r ≤ length (now (line .entry))) ⌝ }
+    ensures { λ r. ⌜ (r ≡ from + upTo blank (drop from (now (line .entry)))) × (from ≤ r) × (r ≤ length (now (line .entry))) ⌝ }
 {
     let mut i = from;
     while i < line.len() {
@@ -38,7 +38,7 @@ fn first(line: &[u8], from: usize, blank: bool) -> usize
 // The next word of a line, from a place on.
 pub fn word_from(line: &[u8], from: usize) -> Word
     requires { ⌜ from ≤ length (now line) ⌝ }
-    ensures { λ r. ⌜ (r ≡ is.wordFrom (now (line .entry)) from) × (from ≤ r .start) × (r .start ≤ r .end) × (r .end ≤ length (now (line .entry))) ⌝ }
+    ensures { λ r. ⌜ (r ≡ wordFrom (now (line .entry)) from) × (from ≤ r .start) × (r .start ≤ r .end) × (r .end ≤ length (now (line .entry))) ⌝ }
 {
     let start = first(line, from, false);
     let end = first(line, start, true);
@@ -50,7 +50,7 @@ pub fn word_from(line: &[u8], from: usize) -> Word
 
 // Is a word this one?
 pub fn is_same(word: &[u8], name: &[u8]) -> bool
-    ensures { λ r. ⌜ r ≡ is.same (now (word .entry)) (now (name .entry)) ⌝ }
+    ensures { λ r. ⌜ r ≡ same (now (word .entry)) (now (name .entry)) ⌝ }
 {
     if word.len() != name.len() {
         return false;

@@ -3,7 +3,7 @@
 use Prim.Native.Nat.{_%_}
 use mathlib.Core.Path.{ap, _∙_}
 use Rattle.text.specs.declared.page.Page.{Page}
-use Rattle.text.specs.Pages as is
+use Rattle.text.specs.Pages.{glyph, put, twoDigits, wrote}
 use borrow.Author.Needs.{needs}
 use Rattle.text.proofs.page.hex.Statement.{statement}
 use Rattle.text.proofs.page.hex.Tie as tie
@@ -15,9 +15,9 @@ digit-requires-2 : tie.Need-digit-requires-2
 digit-requires-2 c κs = search needs
 
 returns : tie.Need-returns
-unfolding is.wrote is.twoDigits
+unfolding wrote twoDigits
 returns c = (
-  c .digit2 .ensures .0 ∙ ap (λ (p : Page). is.put p (is.glyph (c .before .before .args .byte % 16))) (c .before .digit .ensures .0),
+  c .digit2 .ensures .0 ∙ ap (λ (p : Page). put p (glyph (c .before .before .args .byte % 16))) (c .before .digit .ensures .0),
   search needs,
 )
 

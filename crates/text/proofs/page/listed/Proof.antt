@@ -3,14 +3,14 @@
 use Prim.Native.Nat.{_≤_, _+_, _-_, _*_}
 use mathlib.Core.Path.{_≡_, refl, sym, _∙_}
 use lib.ListN.{length, drop}
-use Rattle.text.specs.Pages as is
+use Rattle.text.specs.Pages.{listed, wrote}
 use Rattle.text.proofs.Laws.{listed-end, listed-next}
 use borrow.Author.Needs.{needs}
 use Rattle.text.proofs.page.listed.Statement.{statement}
 use Rattle.text.proofs.page.listed.Tie as tie
 
 abbrev Inv-loop : tie.InvT-loop
-Inv-loop bytes next₀ i₀ next i = (i ≤ length bytes) × (next .at ≡ next₀ .at + i * 3) × (is.wrote next₀ (is.listed bytes) ≡ is.wrote next (is.listed (drop i bytes)))
+Inv-loop bytes next₀ i₀ next i = (i ≤ length bytes) × (next .at ≡ next₀ .at + i * 3) × (wrote next₀ (listed bytes) ≡ wrote next (listed (drop i bytes)))
 
 abbrev μ-loop : tie.MeasureT-loop
 μ-loop bytes next₀ i₀ next i = length bytes - i

@@ -3,14 +3,14 @@
 use Prim.Native.Nat.{_≤_, _+_, _-_}
 use mathlib.Core.Path.{_≡_, refl, sym, _∙_}
 use lib.ListN.{length, drop}
-use Rattle.text.specs.Pages as is
+use Rattle.text.specs.Pages.{wrote}
 use Rattle.text.proofs.Laws.{wrote-end, wrote-next}
 use borrow.Author.Needs.{needs}
 use Rattle.text.proofs.page.text.Statement.{statement}
 use Rattle.text.proofs.page.text.Tie as tie
 
 abbrev Inv-loop : tie.InvT-loop
-Inv-loop words next₀ i₀ next i = (i ≤ length words) × (next .at ≡ next₀ .at + i) × (is.wrote next₀ words ≡ is.wrote next (drop i words))
+Inv-loop words next₀ i₀ next i = (i ≤ length words) × (next .at ≡ next₀ .at + i) × (wrote next₀ words ≡ wrote next (drop i words))
 
 abbrev μ-loop : tie.MeasureT-loop
 μ-loop words next₀ i₀ next i = length words - i
