@@ -5,7 +5,7 @@
 --    outcome m x n, answer m a n    what a call hands back, by its number
 --    resetCall, lookCall, writeCall, readCall    the call: number and next state
 --    readBuffer m a out             the caller's buffer after a read
---    heldCall, interruptCall             the questions: number, state and answer
+--    heldCall, interruptCall        the questions: number, state and answer
 use Prim.Native.Nat.{ℕ}
 use mathlib.Core.Bool.{Bool, false, not}
 use mathlib.Core.List.{List, [], _∷_, _++_}

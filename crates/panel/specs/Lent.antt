@@ -4,7 +4,7 @@
 --    WriteLent m a bs number after          a write of the bytes bs at the address a
 --    ReadLent m a out number after bytes    a read at the address a into the buffer out, which then holds these bytes
 --    HeldLent m row col number answer       is the key at this row and column held? m is lent to be looked at only
---    InterruptLent m number answer               is the interrupt line asserted? m is lent to be looked at only
+--    InterruptLent m number answer          is the interrupt line asserted? m is lent to be looked at only
 --
 -- The contracts in src/ are these five lines, and proofs/Determined.antt says that each allows one outcome only.
 use Prim.Native.Nat.{ℕ}

@@ -1,4 +1,5 @@
--- "A state is sound when:", sentence by sentence, as propositions over rows, columns and places. Nothing here is computed, and nothing that the module judges by is cited.
+-- "A state is sound when:", sentence by sentence, as propositions over rows, columns and places. No walk of the module is cited, and of its tests
+-- `acceptable` and `inSize` alone, which are anchored to literal tables.
 --
 --    Code size c    the byte c is "a press or release code of a key in the size"
 --    Said m         document 01's sentences hold of the module m
