@@ -1,17 +1,17 @@
 -- Laws of the bytes of an access.
 --
---    written-by             what a byte does to the register that is told
---    wrote-none, wrote-next no byte is left to write; one is written, and then the rest
---    read-by                what a read of the register that is told gives
---    shown-code             the picture shown, and the marks' lent parts, are a read of KBDCODE
---    taken-code             a code taken out of the queue's lent parts is a read of EVTCODE
---    read-none              an empty buffer is filled with nothing
---    rest x b, back x b e   what is lent of a buffer x once b is in its first place, and the buffer once that came back as e
---    rest-length, back-length, back-is    their lengths, and what the buffer then holds
---    read-next, read-more   one byte is read, and then the rest
---    evtcode-at, evtcode-stays    the register at 0x10, and the address after it
---    none-read              a read of EVTCODE where no code waits
---    read-at                a read from an address that is told
+--    written-by                          what a byte does to the register that is told
+--    wrote-end, wrote-next               no byte is left to write; one is written, and then the rest
+--    read-by                             what a read of the register that is told gives
+--    shown-code                          the picture shown, and the marks' lent parts, are a read of KBDCODE
+--    taken-code                          a code taken out of the queue's lent parts is a read of EVTCODE
+--    read-end                            an empty buffer is filled with nothing
+--    rest x b, back x b e                what is lent of a buffer x once b is in its first place, and the buffer once that came back as e
+--    rest-length, back-length, back-is   their lengths, and what the buffer then holds
+--    read-next, read-more                one byte is read, and then the rest
+--    evtcode-at, evtcode-stays           the register at 0x10, and the address after it
+--    none-read                           a read of EVTCODE while no code waits
+--    read-at                             a read from an address that is told
 -- Assumes nothing.
 use Prim.Native.Nat.{ℕ, zero, suc, _+_, _-_, _≤_, _<_}
 use native.Mathlib.Numerals.{add-one, sub-one}
@@ -40,9 +40,9 @@ pub written-by : (m : Module) (b : ℕ) (r s : Register) → r ≡ s → written
 written-by m b r s e = sym (ap (λ (k : Register). written m k b) e)
 
 module _ (m : Module) (a : ℕ) (bs : List ℕ) (i : ℕ) where
-  pub wrote-none : length bs ≤ i → wrote m a (drop i bs) ≡ m
+  pub wrote-end : length bs ≤ i → wrote m a (drop i bs) ≡ m
   unfolding wrote
-  wrote-none h = rw (drop-of-length-le bs h)
+  wrote-end h = rw (drop-of-length-le bs h)
 
   wrote-more : i < length bs → wrote m a (drop i bs) ≡ wrote (written m (registerAt a) (getD bs i 0)) (next a) (drop (i + 1) bs)
   unfolding wrote
@@ -65,10 +65,10 @@ pub taken-code : (m : Module) (l : List ℕ) (n c : ℕ) → ((r : Bool) → (c 
 unfolding byteOf readOut
 taken-code m l n c h = (h (m .relint) .0, λ i. withQueue m (h (m .relint) .1 i))
 
-pub read-none : (m : Module) (a : ℕ) (out : List ℕ) → length out < 1 → (m ≡ readAll m a (length out)) × (out ≡ bytesRead m a (length out))
+pub read-end : (m : Module) (a : ℕ) (out : List ℕ) → length out < 1 → (m ≡ readAll m a (length out)) × (out ≡ bytesRead m a (length out))
 unfolding readAll bytesRead
-read-none m a [] h = (refl, refl)
-read-none m a (b ∷ out) h = absurd (omega arith)
+read-end m a [] h = (refl, refl)
+read-end m a (b ∷ out) h = absurd (omega arith)
 
 abbrev rest : List ℕ → ℕ → List ℕ
 rest x b = take (length (set x 0 b) - 1) (drop 1 (set x 0 b))

@@ -1,6 +1,9 @@
 // What the bytes of one access do to a module and a buffer.
+use keys::KEYS;
+use keys::NO_CODE;
 use registers::Register;
 use state::Module;
+use state::PLACES;
 ghost use mathlib.Core.Path.{_≡_};
 ghost use lib.ListN.{length};
 ghost use Rattle.words.specs.Words.{table};
@@ -68,9 +71,9 @@ pub fn wrote(m: Module, first: u16, bytes: &[u8]) -> Module
 
 // The byte that a read of a register gives, and what it does to the parts lent.
 fn read_byte(
-    held: &[bool; 104],
+    held: &[bool; KEYS],
     shown: Shown,
-    places: &mut [u8; 15],
+    places: &mut [u8; PLACES],
     count: &mut u8,
     rsint: &mut bool,
     seen: &mut [bool; 4],
@@ -99,19 +102,19 @@ fn read_byte(
     }
 }
 
-// No code waits: every byte is 0x7F.
+// No code waits: every byte is NO_CODE.
 fn fill_empty(out: &mut [u8])
     ensures { λ _. ⌜ now (out .exit) ≡ table (λ _. 0x7F) (length (now (out .entry))) ⌝ }
 {
     let mut i: usize = 0;
     while i < out.len() {
-        out[i] = 0x7F;
+        out[i] = NO_CODE;
         i = i + 1;
     }
 }
 
 // EVTCODE, byte for byte: the oldest code goes to the buffer's first place, and the rest of the buffer is filled by the same rule.
-fn fetch(places: &mut [u8; 15], count: &mut u8, out: &mut [u8])
+fn fetch(places: &mut [u8; PLACES], count: &mut u8, out: &mut [u8])
     ensures { λ _. ⌜ ((m : Module) →
         let before = withQueue m (queue (now (places .entry)) (now (count .entry)) (m .relint)) in
         let after = withQueue m (queue (now (places .exit)) (now (count .exit)) (m .relint)) in
@@ -131,9 +134,9 @@ fn fetch(places: &mut [u8; 15], count: &mut u8, out: &mut [u8])
 
 // One byte is read into the buffer's first place, and the rest of the buffer is filled by the same rule.
 fn fill_from(
-    held: &[bool; 104],
+    held: &[bool; KEYS],
     shown: Shown,
-    places: &mut [u8; 15],
+    places: &mut [u8; PLACES],
     count: &mut u8,
     rsint: &mut bool,
     seen: &mut [bool; 4],

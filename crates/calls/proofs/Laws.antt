@@ -1,10 +1,10 @@
 -- What a call hands back, as its returns meet it.
 --
---    unsound-first, sound-then           the first line of every call but reset
---    look-samples, look-strays           the lines of a look after that
---    outcome-done, outcome-declined      a call that is done, and one that is declined
---    answer-done, answer-declined        the same of a question
---    buffer-done, buffer-declined        the buffer after a read
+--    unsound-first, sound-then        the first line of every call but reset
+--    look-samples, look-strays        the lines of a look after that
+--    outcome-done, outcome-declined   a call that is done, and one that is declined
+--    answer-done, answer-declined     the same of a question
+--    buffer-done, buffer-declined     the buffer after a read
 -- Assumes nothing.
 use Prim.Native.Nat.{ℕ}
 use mathlib.Core.Path.{_≡_, refl, ap, _∙_}
@@ -13,7 +13,7 @@ use mathlib.Core.List.{List, [], _∷_, _++_}
 use lib.ListN.{length}
 use borrow.Author.Tests.{ne-eqb}
 use Rattle.numbers.specs.Numbers.{Line, _gives_, numberOf, done, unsound, outOfSize}
-use Rattle.numbers.proofs.Laws.{stops, goes, first-decides, rest-decides}
+use Rattle.numbers.proofs.Laws.{line-yes, line-no, first-decides, rest-decides}
 use Rattle.judge.specs.Lines.{sampleLines}
 use Rattle.judge.proofs.Laws.{samples-decline}
 use Rattle.state.specs.declared.Module.{Module}
@@ -26,10 +26,10 @@ use Rattle.calls.specs.Calls.{lookLines, lookNumber, readNumber, outcome
 
 module _ (m : Module) (l : List Line) where
   pub unsound-first : sound m ≡ false → numberOf (not (sound m) gives unsound ∷ l) ≡ unsound
-  unsound-first e = stops (not (sound m)) unsound l (ap not e)
+  unsound-first e = line-yes (not (sound m)) unsound l (ap not e)
 
   pub sound-then : sound m ≡ true → numberOf (not (sound m) gives unsound ∷ l) ≡ numberOf l
-  sound-then e = goes (not (sound m)) unsound l (ap not e)
+  sound-then e = line-no (not (sound m)) unsound l (ap not e)
 
 module _ (m : Module) (s : List ℕ) (ok : sound m ≡ true) where
   -- the line behind those of the samples

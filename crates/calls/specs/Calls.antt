@@ -47,7 +47,7 @@ heldNumber m row col = numberOf (heldLines m row col)
 unfoldable pub interruptNumber : Module → ℕ
 interruptNumber m = numberOf (not (sound m) gives unsound ∷ [])
 
--- "A declined call returns its number, the state as given": the number n, and the state x where it is 0, else m
+-- "A declined call returns its number, the state as given": the number n, and the state x if it is 0, else m
 unfoldable pub outcome : Module → Module → ℕ → Done
 outcome m x n = record { after = x if eqb n done else m; number = n }
 

@@ -4,7 +4,7 @@
 --    run-enough       one step from a history's held and run is held and run of the longer history
 --    carried-held     so the step, carried over any history with D varying at every look, is the rule
 --    step-low         a step's run is at most 254, whatever the run was
---    run-low          no run is above 254, where every KBDBOUNCE is a byte
+--    run-low          no run is above 254, if every KBDBOUNCE is a byte
 --    changes-to       a contact changes to what its newest sample is
 --    other            a sample that isn't as held is the opposite
 --    opposite-flips, opposite-stays    the other way is the opposite, and the same is not

@@ -6,7 +6,7 @@
 --    ProgressWrong found wanted    the codes fetched, once EVTCODE gives 7F        no-progress
 --    LossWrong                     RELINT, once a change was lost                  no-report
 --
--- Each is of a machine M and calls cs, newest first, whose bytes fit where the demand asks that. The law beside it: then M does not meet the demand.
+-- Each is of a machine M and calls cs, newest first, whose bytes fit if the demand asks that. The law beside it: then M does not meet the demand.
 -- Assumes nothing.
 use Prim.Native.Nat.{ℕ, _+_, _*_, _≤_}
 use mathlib.Core.Path.{_≡_, refl, sym, ap, _∙_}

@@ -1,5 +1,6 @@
 -- OUR SIX CALLS MEET THE DEMANDS. The demands are in specs/Demands.antt, the calls as a machine in specs/Ours.antt.
 --
+--    ours-parts              what ours tell of a state is the state
 --    ours-demand1            numbers, and declined calls
 --    ours-never-unsound      8 is never given for a reached state
 --    ours-demand2            held keys, bytes, flags and the line
@@ -8,7 +9,7 @@
 -- Assumes nothing.
 use Prim.Native.Nat.{_+_, _*_}
 use native.Mathlib.Omega.{arith}
-use mathlib.Core.Path.{_≡_, sym, ap, _∙_}
+use mathlib.Core.Path.{_≡_, refl, sym, ap, _∙_}
 use mathlib.Core.Bool.{true, false}
 use mathlib.Core.List.{List, [], _++_, append-nil}
 use Rattle.words.specs.Words.{all}
@@ -27,6 +28,10 @@ use Rattle.demands.proofs.Sound.{no-strays-shown}
 use Rattle.demands.proofs.Rows.{numbers-exact, declined-alters-nothing}
 use Rattle.demands.proofs.Reached.{reached, reached-said}
 use Rattle.demands.proofs.Observed.{bytes-observed, held-observed, line-observed, fetched-taken, seen-waiting, none-waits, relint-observed}
+
+-- row 8 of the table is judged by what the machine tells of its states: ours tell the whole truth
+pub ours-parts : (m : Module) → ours .parts m ≡ m
+ours-parts m = refl
 
 -- "1. The module takes every call, with every value, and finishes it. What it can't do it declines with a number from our list,
 -- and a declined call alters neither the module nor the caller's buffer."
@@ -55,7 +60,7 @@ ours-demand2 =
 codes-observed : (cs : List Call) → all fits cs ≡ true → fetched ours cs ++ seen ours (after ours cs) ≡ taken (done ours cs) ++ waiting (done ours cs)
 codes-observed cs t = λ i. fetched-taken cs i ++ seen-waiting cs t i
 
--- where none waits, all that were kept were taken
+-- if none waits, all that were kept were taken
 all-fetched : (cs : List Call) → waiting (done ours cs) ≡ [] → taken (done ours cs) ≡ kept (arrivals (done ours cs))
 all-fetched cs e = sym (append-nil (taken (done ours cs))) ∙ rw (← e) (ledger (done ours cs))
 

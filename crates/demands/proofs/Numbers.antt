@@ -1,4 +1,4 @@
--- THE NUMBER OF A LIST OF LINES IS THAT OF THE TABLE, where each line's Bool decides its row's proposition.
+-- THE NUMBER OF A LIST OF LINES IS THAT OF THE TABLE, if each line's Bool decides its row's proposition.
 --
 --    Decides b P                 the Bool b is true exactly when P holds
 --    Joined lines rs             the lines and the rows have the same numbers, and each Bool decides its proposition

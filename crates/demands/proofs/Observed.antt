@@ -18,7 +18,7 @@ use lib.Seq.{take-all, take-nil}
 use Rattle.words.specs.Words.{all, bit}
 use Rattle.words.proofs.Laws.{all-first}
 use Rattle.numbers.specs.Numbers.{_gives_, numberOf}
-use Rattle.numbers.proofs.Laws.{goes, ends}
+use Rattle.numbers.proofs.Laws.{line-no, lines-end}
 use Rattle.keys.specs.Keys.{isKey, keyAt, isCode}
 use Rattle.keys.proofs.Laws.{key-yes}
 use Rattle.registers.specs.declared.Register.{Register}
@@ -61,7 +61,7 @@ read-done cs t a out e = sound-then (machine.after ours cs) (readLines a (length
 -- ---- the questions
 held-done : (m : Module) (row col : ℕ) → sound m ≡ true → isKey row col ≡ true → heldNumber m row col ≡ 0
 unfolding heldNumber heldLines
-held-done m row col ok key = sound-then m (not (isKey row col) gives 7 ∷ []) ok ∙ goes (not (isKey row col)) 7 [] (ap not key) ∙ ends
+held-done m row col ok key = sound-then m (not (isKey row col) gives 7 ∷ []) ok ∙ line-no (not (isKey row col)) 7 [] (ap not key) ∙ lines-end
 
 pub held-observed : (cs : List Call) → all fits cs ≡ true → (row col : ℕ) → row ≤ 7 → col ≤ 12
     → called (machine.after ours cs) (held row col) .answer ≡ sheet.held (13 * row + col) (done ours cs)
@@ -73,7 +73,7 @@ held-observed cs t row col r c =
 
 line-done : (m : Module) → sound m ≡ true → interruptNumber m ≡ 0
 unfolding interruptNumber
-line-done m ok = sound-then m [] ok ∙ ends
+line-done m ok = sound-then m [] ok ∙ lines-end
 
 pub line-observed : (cs : List Call) → all fits cs ≡ true → called (machine.after ours cs) interrupt .answer ≡ sheet.line (done ours cs)
 unfolding called asking interruptCall answer

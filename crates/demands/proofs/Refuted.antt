@@ -16,14 +16,13 @@ use borrow.Author.Tests.{ltb-true}
 use Rattle.words.proofs.Lists.{all-anywhere, all-replicate}
 use Rattle.registers.specs.Runs.{next}
 use Rattle.state.specs.declared.Module.{Module}
-use Rattle.state.specs.Module.{fresh, forgotten, withBounce, withMask}
+use Rattle.state.specs.Module.{fresh, withBounce, withMask}
 use Rattle.state.specs.Typed.{Typed}
-use Rattle.calls.specs.Calls.{lookCall, writeCall, readCall, readBuffer, interruptCall}
 use Rattle.demands.specs.Machine.{Call, reset, look, write, read, held, interrupt, after}
 use Rattle.demands.specs.Table.{rules}
 use Rattle.demands.specs.Demands.{Demand1, Demand2, Demand3, NoSilentLoss}
 use Rattle.demands.specs.Ours.{called, ours}
-use Rattle.demands.specs.Wrong.{usual, calledBy, declined, declining, blank, stuck, asleep, firstLook, once, inventive, remembering, unchanged, lowering, emptying, trusted, trusting, passing, hasty, forgetful, stingy, silent}
+use Rattle.demands.specs.Wrong.{usual, calledBy, declining, blank, stuck, asleep, firstLook, once, inventive, remembering, unchanged, lowering, emptying, trusted, trusting, passing, hasty, forgetful, stingy, silent}
 use Rattle.demands.proofs.Failing.{LedgerWrong, no-ledger, KeyWrong, no-key, BytesWrong, no-bytes, ProgressWrong, no-progress, LossWrong, no-report}
 use Rattle.demands.proofs.Opened.{opened}
 use Rattle.demands.proofs.Numbers.{first-only}
@@ -31,7 +30,7 @@ use Rattle.demands.proofs.Rows.{numbers-exact}
 
 -- ---- ours, but for one effect
 built-usual : (m : Module) (c : Call) → calledBy usual m c ≡ called m c
-unfolding calledBy called lookCall writeCall readCall readBuffer interruptCall
+unfolding opened
 built-usual m reset = refl
 built-usual m (look s) = refl
 built-usual m (write a bs) = refl
@@ -60,12 +59,12 @@ second = rows 0 0x0002 ∷ rows 0 0 ∷ write 0x02 (1 ∷ []) ∷ []
 abbrev sixteen : List Call
 sixteen = rows 0x0FFF 0x000F ∷ write 0x02 (1 ∷ 0x8C ∷ []) ∷ []
 
--- a state like that after reset, with a mask and a bounce; unsound where the mask is above 0x0F
+-- a state like that after reset, with a mask and a bounce; unsound if the mask is above 0x0F
 abbrev settings : ℕ → ℕ → Module
 settings mask bounce = withBounce (withMask fresh mask) bounce
 
 settings-typed : (mask bounce : ℕ) → bounce ≤ 255 → Typed (settings mask bounce)
-unfolding fresh forgotten
+unfolding opened
 settings-typed mask bounce low =
     record {
       keys = refl;
@@ -101,7 +100,10 @@ record Told : Type 0 where
   emptying : LedgerWrong emptying (write 0x08 (0x02 ∷ []) ∷ pressed) [] (0x11 ∷ [])
   passing : BytesWrong passing [] 0x10 (0x7F ∷ 0x00 ∷ []) (0x7F ∷ 0x7F ∷ [])
   hasty : TakenWrong
-  forgetful : LedgerWrong forgetful sixteen (1 ∷ 2 ∷ 3 ∷ 4 ∷ 5 ∷ 6 ∷ 7 ∷ 8 ∷ 9 ∷ 0x0A ∷ 0x0B ∷ 0x10 ∷ 0x11 ∷ 0x12 ∷ 0x13 ∷ []) (0 ∷ 1 ∷ 2 ∷ 3 ∷ 4 ∷ 5 ∷ 6 ∷ 7 ∷ 8 ∷ 9 ∷ 0x0A ∷ 0x0B ∷ 0x10 ∷ 0x11 ∷ 0x12 ∷ [])
+  forgetful :
+      LedgerWrong forgetful sixteen
+      (1 ∷ 2 ∷ 3 ∷ 4 ∷ 5 ∷ 6 ∷ 7 ∷ 8 ∷ 9 ∷ 0x0A ∷ 0x0B ∷ 0x10 ∷ 0x11 ∷ 0x12 ∷ 0x13 ∷ [])
+      (0 ∷ 1 ∷ 2 ∷ 3 ∷ 4 ∷ 5 ∷ 6 ∷ 7 ∷ 8 ∷ 9 ∷ 0x0A ∷ 0x0B ∷ 0x10 ∷ 0x11 ∷ 0x12 ∷ [])
   stingy : ProgressWrong stingy pressed [] (0x11 ∷ [])
   silent : LossWrong silent sixteen
 
@@ -133,7 +135,7 @@ told =
 -- ---- "Try these and see them rejected"
 -- "a module that declines every call (the table's exact conditions, demand 1)"
 pub declining-refuted : Demand1 declining → ⊥
-unfolding declined rules
+unfolding opened
 declining-refuted d =
     let m = settings 0x03 0x03 in
     let t = settings-typed 0x03 0x03 (omega arith) in
@@ -207,7 +209,7 @@ emptying-refuted = no-ledger emptying _ _ _ (told .emptying)
 
 -- "Number 8 is given exactly otherwise": a state with KBDMSK 0x37 is served
 pub trusting-refuted : Demand1 trusting → ⊥
-unfolding rules
+unfolding opened
 trusting-refuted d =
     let m = settings 0x37 0xC5 in
     let t = settings-typed 0x37 0xC5 (omega arith) in

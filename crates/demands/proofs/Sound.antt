@@ -3,7 +3,7 @@
 --    bytes-fit, sizes-fit    what `fitting` says of the bytes written, as the sheet's laws ask for it
 --    out-shown          out of the size no key is held, and none has a run
 --    key-shown, codes-shown, rest-shown    what is asked of the keys, the codes that wait, and the unused places
---    shown-sound        THE MODULE IS SOUND, where the bytes written fit
+--    shown-sound        THE MODULE IS SOUND, if the bytes written fit
 --    shown-typed        and is as the struct's types say
 --    no-strays-shown    number 9 is never given
 -- Assumes nothing.

@@ -1,4 +1,4 @@
--- THE SESSIONS of document 01 that are marked P: the calls, and what each must give. That ours give it: proofs/Sessions.antt.
+-- THE SESSIONS of document 01 that are marked P: the calls, and what each must give. Ours give it: proofs/Sessions.antt.
 --
 --    Step            a call with its number, the buffer as it leaves it, and the answer
 --    does, declines, gives    a call that is done; one that is declined; a read that gives bytes

@@ -2,11 +2,11 @@
 --
 --    after past      the module after a past: reset, then what each look and each byte makes of it
 --    run k past      key k's run
---    places w        the queue's 15 places, where the codes w wait
+--    places w        the queue's 15 places while the codes w wait
 --    shown past      THE MODULE THAT THE SHEET WRITES DOWN, field by field
 --    fitting past    every byte written is one, and those for KBDSIZE are acceptable
 --
--- That the two are the same, for every past, is proofs/Simulation.antt.
+-- The two are the same, for every past: proofs/Simulation.antt.
 use Prim.Native.Nat.{ℕ, _-_}
 use mathlib.Core.Bool.{Bool, true, _&&_}
 use mathlib.Core.List.{List, [], _∷_, _++_}

@@ -42,7 +42,7 @@ use Rattle.demands.specs.Ours.{changing, asking, called}
 abbrev pub doing : (Module → Call → Gives Module) → Machine
 doing does = record { State = Module; start = fresh; parts = λ m. m; astray = strays; does = does }
 
--- what the calls do that are done
+-- what the done calls do
 pub record Effects : Type 0 where
   pub look : Module → List ℕ → Module
   pub write : Module → ℕ → List ℕ → Module

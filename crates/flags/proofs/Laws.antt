@@ -7,8 +7,8 @@
 --    weigh-most, four-most   the most that one flag and four can weigh
 --    ris-most, mis-most      "the rest 0": KBDRIS and KBDMIS are below 16
 --    ris-bits                the bits of KBDRIS are the flags
---    mis-shows, mis-bits     the bits of KBDMIS are those of KBDRIS, but 0 where KBDMSK has the bit set
---    line-porirq, line-mis   the line where PORIRQ is set, and where it isn't
+--    mis-shows, mis-bits     a bit of KBDMIS is that of KBDRIS, or 0 if KBDMSK has it set
+--    line-porirq, line-mis   the line if PORIRQ is set, and if it isn't
 -- Assumes nothing.
 use Prim.Native.Nat.{ℕ, zero, suc, _+_, _*_, _<_, _≤_}
 use native.Mathlib.Omega.{arith}

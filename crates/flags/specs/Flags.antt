@@ -1,6 +1,6 @@
 -- The keypad flags and the interrupt line. Nothing of this is stored but the four flags.
 --
---    weigh f w    w where the flag f is set, else 0
+--    weigh f w    w if the flag f is set, else 0
 --    ris m        what KBDRIS reads; risOf of its parts
 --    mis m        what KBDMIS reads; misOf of its parts
 --    line m       the interrupt line is asserted

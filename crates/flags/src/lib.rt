@@ -5,7 +5,7 @@ ghost use Prim.Native.Nat.{_≤_, _+_};
 ghost use Rattle.words.specs.Words.{without};
 ghost use Rattle.flags.specs.Flags.{line, misOf, risOf, weigh};
 
-// A flag's weight where it is set, else 0.
+// A flag's weight if it is set, else 0.
 fn weigh(flag: bool, weight: u8) -> u8
     ensures { λ r. ⌜ (r ≡ weigh flag weight) × (r ≤ weight) ⌝ }
 {
@@ -22,7 +22,7 @@ fn byte(relint: bool, revtint: bool, rklint: bool, rsint: bool) -> u8
     weigh(relint, 8) + weigh(revtint, 4) + weigh(rklint, 2) + weigh(rsint, 1)
 }
 
-// A flag, cleared where a bit of a byte is 1.
+// A flag, cleared if a bit of a byte is 1.
 pub fn cleared(flag: bool, bit: u8, byte: u8) -> bool
     requires { ⌜ bit ≤ 7 ⌝ }
     ensures { λ r. ⌜ r ≡ without bit flag byte ⌝ }

@@ -1,12 +1,12 @@
 -- Laws of what is judged by a call's arguments alone.
 --
---    high-yes, high-no           bits 13 to 15, told by one comparison
---    fits-size, fits-other       what is asked of a byte for KBDSIZE, and of one for another register
---    sizes-none, sizes-stop, sizes-go    no byte is left; one is not acceptable; one is, and the rest decides
---    samples-decline, access-declines    no line gives the number of a call that is done
---    eight-samples               a look whose samples are not declined has eight
---    write-access, write-rest    a write is declined as an access, or else by its bytes alone
---    key-there                   a row and a column that are not declined are those of a key
+--    high-yes, high-no                  bits 13 to 15, told by one comparison
+--    fits-size, fits-other              what is asked of a byte for KBDSIZE, and of one for another register
+--    sizes-end, sizes-no, sizes-yes     no byte is left; one is not acceptable; one is, and the rest decides
+--    samples-decline, access-declines   no line gives the number of a call that is done
+--    eight-samples                      a look whose samples are not declined has eight
+--    write-access, write-rest           a write is declined as an access, or else by its bytes alone
+--    key-there                          a row and a column that are not declined are those of a key
 -- Assumes nothing.
 use Prim.Native.Nat.{ℕ, _+_, _/_, _%_, _≤_, _<_}
 use native.Mathlib.Numerals.{add-one}
@@ -83,21 +83,21 @@ module _ (b : ℕ) where
   fits-other Unknown h = refl
 
 module _ (a : ℕ) (bs : List ℕ) (i : ℕ) where
-  pub sizes-none : length bs ≤ i → sizesFit a (drop i bs) ≡ true
+  pub sizes-end : length bs ≤ i → sizesFit a (drop i bs) ≡ true
   unfolding sizesFit
-  sizes-none h = rw (drop-of-length-le bs h)
+  sizes-end h = rw (drop-of-length-le bs h)
 
   module _ (r : Register) (b : Bool) (h : i < length bs) (er : r ≡ registerAt a) (eb : b ≡ byteFits r (getD bs i 0)) where
     fit-at : byteFits (registerAt a) (getD bs i 0) ≡ b
     fit-at = sym (eb ∙ ap (λ (k : Register). byteFits k (getD bs i 0)) er)
 
-    pub sizes-stop : b ≡ false → sizesFit a (drop i bs) ≡ false
+    pub sizes-no : b ≡ false → sizesFit a (drop i bs) ≡ false
     unfolding sizesFit
-    sizes-stop e = rw (drop-cons bs i 0 h, fit-at, e)
+    sizes-no e = rw (drop-cons bs i 0 h, fit-at, e)
 
-    pub sizes-go : b ≡ true → (a′ : ℕ) → a′ ≡ next a → sizesFit a (drop i bs) ≡ sizesFit a′ (drop (i + 1) bs)
+    pub sizes-yes : b ≡ true → (a′ : ℕ) → a′ ≡ next a → sizesFit a (drop i bs) ≡ sizesFit a′ (drop (i + 1) bs)
     unfolding sizesFit
-    sizes-go e a′ en = rw (drop-cons bs i 0 h, fit-at, e, add-one i, en)
+    sizes-yes e a′ en = rw (drop-cons bs i 0 h, fit-at, e, add-one i, en)
 
 -- no line of a look's samples or of an access gives the number of a call that is done
 pub samples-decline : (s : List ℕ) → declining (sampleLines s) ≡ true

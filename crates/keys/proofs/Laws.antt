@@ -1,19 +1,19 @@
 -- Laws of keys.
 --
---    key-yes, no-row, no-col      there is such a key, or there is none
---    key-row, key-col             row and column of a key are in range
---    press-none, press-some       the code tells whether there is such a key; press-low: it is at most 0x7F
---    row-yes, col-yes             row and column of a key number; row-none, col-none: of no key
---    row-low, col-low             they are in range; key-low: and so is the number of a key
---    place-row, place-col         row and column of the key that stands there
---    key-back, back-row, back-col    the key number, and back
---    press-is, release-is         the codes of a key
---    code-key                     the key of a change's code is the key that changed
---    code-place                   the code of a change, by the key's row and column
---    code-low                     a press is at most 0x7F; code-byte: every code is a byte
---    sample-out                   out of the size a sample counts as open
---    rows-most                    an acceptable size has at most 8 rows
---    code-in                      by its row and column, or by the number of its key, a code is of a key in the size
+--    key-yes, no-row, no-col        there is such a key, or there is none
+--    key-row, key-col               row and column of a key are in range
+--    press-no, press-yes            the code tells whether there is such a key; press-low: it is at most 0x7F
+--    row-yes, col-yes               row and column of a key number; row-no, col-no: of no key
+--    row-low, col-low               they are in range; key-low: and so is the number of a key
+--    place-row, place-col           row and column of the key that stands there
+--    key-back, back-row, back-col   the key number, and back
+--    press-is, release-is           the codes of a key
+--    code-key                       the key of a change's code is the key that changed
+--    code-place                     the code of a change, by the key's row and column
+--    code-low                       a press is at most 0x7F; code-byte: every code is a byte
+--    sample-out                     out of the size a sample counts as open
+--    rows-most                      an acceptable size has at most 8 rows
+--    code-in                        by its row and column, or by the number of its key, a code is of a key in the size
 -- Assumes nothing.
 use Prim.Native.Nat.{ℕ, _+_, _*_, _/_, _%_, _≤_, _<_}
 use native.Mathlib.Decide.{decLe}
@@ -48,9 +48,9 @@ module _ (row col : ℕ) where
   key-col e = leb-true col 12 (and-right (leb row 7) (leb col 12) e)
 
   -- a press code is never 0x7F, whose low four bits are no column
-  pub press-none : pressCode row col ≡ 0x7F → isKey row col ≡ false
+  pub press-no : pressCode row col ≡ 0x7F → isKey row col ≡ false
   unfolding pressCode
-  press-none e = go (isKey row col) refl
+  press-no e = go (isKey row col) refl
     where
       go : (b : Bool) → isKey row col ≡ b → isKey row col ≡ false
       go false f = f
@@ -60,9 +60,9 @@ module _ (row col : ℕ) where
           let p : 16 * row + col ≡ 0x7F = rw f at e in
           absurd (omega arith)
 
-  pub press-some : (pressCode row col ≡ 0x7F → ⊥) → isKey row col ≡ true
+  pub press-yes : (pressCode row col ≡ 0x7F → ⊥) → isKey row col ≡ true
   unfolding pressCode
-  press-some h = go (isKey row col) refl
+  press-yes h = go (isKey row col) refl
     where
       go : (b : Bool) → isKey row col ≡ b → isKey row col ≡ true
       go true f = f
@@ -81,17 +81,17 @@ module _ (k : ℕ) where
   unfolding rowOf
   row-yes h = rw (lt-ltb k 104 h)
 
-  pub row-none : 104 ≤ k → rowOf k ≡ 8
+  pub row-no : 104 ≤ k → rowOf k ≡ 8
   unfolding rowOf
-  row-none h = rw (le-ltb k 104 h)
+  row-no h = rw (le-ltb k 104 h)
 
   pub col-yes : k < 104 → colOf k ≡ k % 13
   unfolding colOf
   col-yes h = rw (lt-ltb k 104 h)
 
-  pub col-none : 104 ≤ k → colOf k ≡ 13
+  pub col-no : 104 ≤ k → colOf k ≡ 13
   unfolding colOf
-  col-none h = rw (le-ltb k 104 h)
+  col-no h = rw (le-ltb k 104 h)
 
   pub row-low : k < 104 → rowOf k ≤ 7
   row-low h = let e = row-yes h in omega arith
@@ -204,4 +204,4 @@ module _ (size : ℕ) (ok : acceptable size ≡ true) where
       where
         go : Dec (b % 16 ≤ 12) → inSize size (b % 128 / 16) (b % 16) ≡ inSize size (rowOf (keyAt (b % 128 / 16) (b % 16))) (colOf (keyAt (b % 128 / 16) (b % 16)))
         go (yes l) = rw (back-row (b % 128 / 16) (b % 16) (omega arith) l, back-col (b % 128 / 16) (b % 16) (omega arith) l)
-        go (no l) = let h : 12 < b % 16 = omega arith in not-in h ∙ rw (no-key h, row-none 104 (omega arith), col-none 104 (omega arith)) (sym none-in)
+        go (no l) = let h : 12 < b % 16 = omega arith in not-in h ∙ rw (no-key h, row-no 104 (omega arith), col-no 104 (omega arith)) (sym none-in)

@@ -5,7 +5,7 @@
 --    told-other        the code of another key's change leaves it as it was
 --    replayed-append   codes, then more codes
 --    legal-append      the same of legality
---    legal-one         the code of a change is legal where the key was the opposite
+--    legal-one         the code of a change is legal if the key was the opposite
 -- Assumes nothing.
 use Prim.Native.Nat.{ℕ, _+_, _*_, _<_}
 use native.Mathlib.Omega.{arith}

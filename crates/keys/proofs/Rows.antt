@@ -1,7 +1,7 @@
 -- What holds of every key, row by row: f tells it of a key's number, g of the columns of one row.
 --
---    row-goes     it holds of the rows below and of this one
---    row-stops    it fails in this row, and so it doesn't hold of all keys
+--    rows-yes   it holds of the rows below and of this one
+--    rows-no    it fails in this row, and so it doesn't hold of all keys
 -- Assumes nothing.
 use Prim.Native.Nat.{ℕ, _+_, _*_, _<_}
 use native.Mathlib.Omega.{arith}
@@ -14,8 +14,8 @@ module _ (f g : ℕ → Bool) (row : ℕ) (h : row < 8) (same : (col : ℕ) → 
   row-all : allBelow f (13 * row + 13) ≡ allBelow g 13
   row-all = below-split f (13 * row) 13 ∙ rw below (below-same (λ j. f (13 * row + j)) g 13 same)
 
-  pub row-goes : allBelow g 13 ≡ true → allBelow f (13 * (row + 1)) ≡ true
-  row-goes e = ap (allBelow f) (omega arith) ∙ row-all ∙ e
+  pub rows-yes : allBelow g 13 ≡ true → allBelow f (13 * (row + 1)) ≡ true
+  rows-yes e = ap (allBelow f) (omega arith) ∙ row-all ∙ e
 
-  pub row-stops : allBelow g 13 ≡ false → allBelow f 104 ≡ false
-  row-stops e = below-still f (13 * row + 13) 104 (omega arith) (row-all ∙ e)
+  pub rows-no : allBelow g 13 ≡ false → allBelow f 104 ≡ false
+  rows-no e = below-still f (13 * row + 13) 104 (omega arith) (row-all ∙ e)

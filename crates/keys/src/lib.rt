@@ -11,9 +11,20 @@ pub struct Row(pub u8);
 #[repr(C)]
 pub struct Col(pub u8);
 
-// What is answered where there is no such key.
-pub const NO_KEY: usize = 104;
+pub const ROWS: u8 = 8;
 
+// A row's columns, its special function key among them.
+pub const COLS: u8 = 13;
+
+// How many keys a row has.
+pub const ROW_KEYS: usize = COLS as usize;
+
+pub const KEYS: usize = 104;
+
+// The number that stands for no key.
+pub const NO_KEY: usize = KEYS;
+
+// The code that stands for no key.
 pub const NO_CODE: u8 = 0x7F;
 
 // Is there such a key?
@@ -28,7 +39,7 @@ pub fn is_key(row: Row, col: Col) -> bool
     c <= 12
 }
 
-// The number of a key, by row, then column; NO_KEY where there is none.
+// The number of a key, by row, then column; NO_KEY if there is none.
 pub fn key_at(row: Row, col: Col) -> usize
     ensures { λ r. ⌜ r ≡ keyAt (row .0) (col .0) ⌝ }
 {
@@ -37,30 +48,30 @@ pub fn key_at(row: Row, col: Col) -> usize
     if !is_key(row, col) {
         return NO_KEY;
     }
-    13 * (r as usize) + (c as usize)
+    ROW_KEYS * (r as usize) + (c as usize)
 }
 
-// The row of a key; 8 where there is no such key.
+// The row of a key; ROWS if there is no such key.
 pub fn row_of(key: usize) -> Row
     ensures { λ r. ⌜ r .0 ≡ rowOf key ⌝ }
 {
     if NO_KEY <= key {
-        return Row(8);
+        return Row(ROWS);
     }
-    Row((key / 13) as u8)
+    Row((key / ROW_KEYS) as u8)
 }
 
-// The column of a key; 13 where there is no such key.
+// The column of a key; COLS if there is no such key.
 pub fn col_of(key: usize) -> Col
     ensures { λ r. ⌜ r .0 ≡ colOf key ⌝ }
 {
     if NO_KEY <= key {
-        return Col(13);
+        return Col(COLS);
     }
-    Col((key % 13) as u8)
+    Col((key % ROW_KEYS) as u8)
 }
 
-// A key's press code; NO_CODE where there is no such key.
+// A key's press code; NO_CODE if there is no such key.
 pub fn press_code(row: Row, col: Col) -> u8
     ensures { λ r. ⌜ r ≡ pressCode (row .0) (col .0) ⌝ }
 {
@@ -72,7 +83,7 @@ pub fn press_code(row: Row, col: Col) -> u8
     16 * r + c
 }
 
-// A key's release code; NO_CODE where there is no such key.
+// A key's release code; NO_CODE if there is no such key.
 pub fn release_code(row: Row, col: Col) -> u8
     ensures { λ r. ⌜ r ≡ releaseCode (row .0) (col .0) ⌝ }
 {
@@ -107,7 +118,7 @@ pub fn is_code(byte: u8) -> bool
     byte % 16 <= 12
 }
 
-// The key that a press or release code speaks of; NO_KEY where it is no code.
+// The key that a press or release code speaks of; NO_KEY if it is no code.
 pub fn key_of(byte: u8) -> usize
     ensures { λ r. ⌜ r ≡ keyOf byte ⌝ }
 {

@@ -1,10 +1,10 @@
 -- The number of a list of lines.
 --
---    given, only                   `numberOf` is the table's sentence, both ways
---    stops, goes, ends             the first line decides; it is passed; none is left
---    declining l                   no line of the list l gives the number of a call that is done
---    first-decides, rest-decides   of two lists the first declines the call; it passes the call on, and the rest decides
---    line-false                    a call that is done has passed each of its lines
+--    given, only                    `numberOf` is the table's sentence, both ways
+--    line-yes, line-no, lines-end   the first line decides; it is passed; none is left
+--    declining l                    no line of the list l gives the number of a call that is done
+--    first-decides, rest-decides    of two lists the first declines the call; it passes the call on, and the rest decides
+--    line-false                     a call that is done has passed each of its lines
 -- Assumes nothing.
 use Prim.Native.Nat.{ℕ}
 use mathlib.Core.Path.{_≡_, refl}
@@ -31,17 +31,17 @@ only ((false gives n) ∷ l) k (inl g) = absurd (false≢true (g .0))
 only ((false gives n) ∷ l) k (inr g) = only l k (g .1)
 
 module _ (b : Bool) (n : ℕ) (l : List Line) where
-  pub stops : b ≡ true → numberOf ((b gives n) ∷ l) ≡ n
+  pub line-yes : b ≡ true → numberOf ((b gives n) ∷ l) ≡ n
   unfolding numberOf
-  stops e = rw e
+  line-yes e = rw e
 
-  pub goes : b ≡ false → numberOf ((b gives n) ∷ l) ≡ numberOf l
+  pub line-no : b ≡ false → numberOf ((b gives n) ∷ l) ≡ numberOf l
   unfolding numberOf
-  goes e = rw e
+  line-no e = rw e
 
-pub ends : numberOf [] ≡ done
+pub lines-end : numberOf [] ≡ done
 unfolding numberOf
-ends = refl
+lines-end = refl
 
 -- no line of the list gives the number of a call that is done
 unfoldable pub declining : List Line → Bool

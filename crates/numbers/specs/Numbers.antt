@@ -53,7 +53,7 @@ infix 70 _gives_
 pub data Line : Type 0 where
   _gives_ : Bool → ℕ → Line
 
--- the number of the first line that is true; done where none is
+-- the number of the first line that is true; done if none is
 unfoldable pub numberOf : List Line → ℕ
 numberOf [] = done
 numberOf ((true gives n) ∷ l) = n

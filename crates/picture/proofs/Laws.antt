@@ -1,12 +1,12 @@
 -- Laws of the picture.
 --
---    codesFrom k l                  the press codes of the held keys of the table l from key k on
---    held-end, held-on, held-off    of them: no key is left, key k is held, key k is open
---    more-end, more-on, more-off    whether there is one
---    nth-first, nth-later           what a register shows of given codes
---    nth-end, nth-here, nth-on, nth-off    what it shows of the keys from k on
---    read-first, read-second, read-third, read-last    the marks, looked at one by one
---    marked-all, marked-some        the fourth mark is set, and one before it
+--    codesFrom k l                        the press codes of the held keys of the table l from key k on
+--    held-end, held-yes, held-no          of them: no key is left, key k is held, key k is open
+--    more-end, more-yes, more-no          whether there is one
+--    nth-first, nth-later                 what a register shows of given codes
+--    nth-end, nth-here, nth-yes, nth-no   what it shows of the keys from k on
+--    read-first, read-second, read-third, read-last   the marks, looked at one by one
+--    marked-all, marked-some              the fourth mark is set, and one before it
 -- Assumes nothing.
 use Prim.Native.Nat.{ℕ, zero, suc, _+_, _-_, _≤_, _<_}
 use native.Mathlib.Numerals.{add-one, sub-one}
@@ -49,30 +49,30 @@ module _ (l : List Bool) (long : length l ≡ 104) (k : ℕ) where
     nth-end n = rw held-end
 
   module _ (h : k < 104) (e : getD l k false ≡ true) where
-    held-on : codesFrom k l ≡ code k true ∷ codesFrom (k + 1) l
+    held-yes : codesFrom k l ≡ code k true ∷ codesFrom (k + 1) l
     unfolding heldCodes
-    held-on = simp (add-one, drop-cons l k false (omega (arith, long)), e)
+    held-yes = simp (add-one, drop-cons l k false (omega (arith, long)), e)
 
-    pub more-on : more (codesFrom k l) ≡ 128
+    pub more-yes : more (codesFrom k l) ≡ 128
     unfolding more
-    more-on = rw held-on
+    more-yes = rw held-yes
 
     pub nth-here : (n : ℕ) → n < 1 → nth n (codesFrom k l) ≡ code k true + more (codesFrom (k + 1) l)
-    nth-here n z = rw held-on (nth-first n (code k true) (codesFrom (k + 1) l) z)
+    nth-here n z = rw held-yes (nth-first n (code k true) (codesFrom (k + 1) l) z)
 
-    pub nth-on : (n : ℕ) → 1 ≤ n → nth n (codesFrom k l) ≡ nth (n - 1) (codesFrom (k + 1) l)
-    nth-on n z = rw held-on (nth-later n (code k true) (codesFrom (k + 1) l) z)
+    pub nth-yes : (n : ℕ) → 1 ≤ n → nth n (codesFrom k l) ≡ nth (n - 1) (codesFrom (k + 1) l)
+    nth-yes n z = rw held-yes (nth-later n (code k true) (codesFrom (k + 1) l) z)
 
   module _ (h : k < 104) (e : getD l k false ≡ false) where
-    held-off : codesFrom k l ≡ codesFrom (k + 1) l
+    held-no : codesFrom k l ≡ codesFrom (k + 1) l
     unfolding heldCodes
-    held-off = rw (drop-cons l k false (omega (arith, long)), e) (ap (λ (j : ℕ). heldCodes (k + 1) (drop j l)) (sym (add-one k)))
+    held-no = rw (drop-cons l k false (omega (arith, long)), e) (ap (λ (j : ℕ). heldCodes (k + 1) (drop j l)) (sym (add-one k)))
 
-    pub more-off : more (codesFrom k l) ≡ more (codesFrom (k + 1) l)
-    more-off = ap more held-off
+    pub more-no : more (codesFrom k l) ≡ more (codesFrom (k + 1) l)
+    more-no = ap more held-no
 
-    pub nth-off : (n : ℕ) → nth n (codesFrom k l) ≡ nth n (codesFrom (k + 1) l)
-    nth-off n = ap (nth n) held-off
+    pub nth-no : (n : ℕ) → nth n (codesFrom k l) ≡ nth n (codesFrom (k + 1) l)
+    nth-no n = ap (nth n) held-no
 
 module _ (seen : List Bool) where
   pub read-first : getD seen 0 false ≡ false → allRead seen ≡ false

@@ -1,7 +1,7 @@
 -- The picture: KBDCODE0 to KBDCODE3.
 --
 --    heldCodes k hs    the press codes of the held keys of a table that begins with key k
---    more cs           128 where there are codes, else 0
+--    more cs           128 if there are codes, else 0
 --    nth n cs          what the register number n shows, the held keys' press codes being cs
 --    picture n hs      the same for a table of held keys
 --    allRead seen      all four are marked as read
@@ -21,7 +21,7 @@ heldCodes k [] = []
 heldCodes k (true ∷ hs) = code k true ∷ heldCodes (k + 1) hs
 heldCodes k (false ∷ hs) = heldCodes (k + 1) hs
 
--- 128 where there are codes
+-- 128 if there are codes
 unfoldable pub more : List ℕ → ℕ
 more [] = 0
 more (c ∷ cs) = 128

@@ -1,4 +1,5 @@
 // The picture, and which of its registers were read.
+use keys::KEYS;
 ghost use mathlib.Core.Path.{_≡_};
 ghost use mathlib.Core.Bool.{true};
 ghost use lib.ListN.{length, set, drop};
@@ -52,13 +53,13 @@ pub fn mark(rsint: &mut bool, seen: &mut [bool; 4], n: u8)
     *seen = marks;
 }
 
-// Is a key from this one on held? 128 where one is, else 0.
+// Is a key from this one on held? 128 if one is, else 0.
 fn more(table: &[bool], from: usize) -> u8
     requires { ⌜ length (now table) ≡ 104 ⌝ }
     ensures { λ r. ⌜ (r ≡ more (heldCodes from (drop from (now (table .entry))))) × (r ≤ 128) ⌝ }
 {
     let mut k = from;
-    while k < 104 {
+    while k < KEYS {
         if table[k] {
             return 128;
         }
@@ -74,7 +75,7 @@ fn shown(table: &[bool], n: u8) -> u8
 {
     let mut k: usize = 0;
     let mut rest = n;
-    while k < 104 {
+    while k < KEYS {
         if table[k] {
             if rest < 1 {
                 return keys::change_code(k, true) + more(table, k + 1);
@@ -83,11 +84,11 @@ fn shown(table: &[bool], n: u8) -> u8
         }
         k = k + 1;
     }
-    0x7F
+    keys::NO_CODE
 }
 
 // What picture register n shows.
-pub fn picture(held: &[bool; 104], n: u8) -> u8
+pub fn picture(held: &[bool; KEYS], n: u8) -> u8
     ensures { λ r. ⌜ r ≡ picture n (now (held .entry)) ⌝ }
 {
     // a slice's length is known

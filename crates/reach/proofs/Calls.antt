@@ -99,21 +99,21 @@ write-back RSTINTCLR e = refl
 write-back Unknown e = true-false (sym e)
 
 -- ---- each of them is done
-look-goes : (m : Module) (s : List ℕ) → sound m ≡ true → strays m s ≡ false → eqb (length s) 8 ≡ true → all (λ x. not (high x)) s ≡ true → lookNumber m s ≡ 0
+look-done : (m : Module) (s : List ℕ) → sound m ≡ true → strays m s ≡ false → eqb (length s) 8 ≡ true → all (λ x. not (high x)) s ≡ true → lookNumber m s ≡ 0
 unfolding lookNumber lookLines sampleLines numberOf
-look-goes m s a b c d = rw (a, c, d, b) refl
+look-done m s a b c d = rw (a, c, d, b) refl
 
 may : (way : Access) (a : ℕ) → allowed way (registerAt a) ≡ true → runAllowed way a 1 ≡ true
 unfolding runAllowed addresses
 may way a e = all-one (λ a. allowed way (registerAt a)) a e
 
-write-goes : (m : Module) (a b : ℕ) → sound m ≡ true → allowed Write (registerAt a) ≡ true → byteFits (registerAt a) b ≡ true → writeNumber m a (b ∷ []) ≡ 0
+write-done : (m : Module) (a b : ℕ) → sound m ≡ true → allowed Write (registerAt a) ≡ true → byteFits (registerAt a) b ≡ true → writeNumber m a (b ∷ []) ≡ 0
 unfolding writeNumber writeLines accessLines sizesFit numberOf
-write-goes m a b s e f = rw (s, may Write a e, f) refl
+write-done m a b s e f = rw (s, may Write a e, f) refl
 
-read-goes : (m : Module) (a : ℕ) → sound m ≡ true → allowed Read (registerAt a) ≡ true → readNumber m a 1 ≡ 0
+read-allowed : (m : Module) (a : ℕ) → sound m ≡ true → allowed Read (registerAt a) ≡ true → readNumber m a 1 ≡ 0
 unfolding readNumber readLines accessLines numberOf
-read-goes m a s e = rw (s, may Read a e) refl
+read-allowed m a s e = rw (s, may Read a e) refl
 
 -- ---- the bytes are bytes
 -- the part of `doable` that speaks of a look's samples
@@ -193,7 +193,7 @@ module _ (cs : List Call) (good : all fits cs ≡ true) where
   call-done (looked s) e =
       let past = done ours cs in
       let both = and-left (eqb (length s) 8 && all (λ x. not (high x)) s) (all (λ x. ltb x 0x10000) s) (and-left (sampled s) (doable past) e) in
-      goes (look s) (look-goes (machine.after ours cs) s (reached-sound cs good) (ours-never-unsound .nowhere cs s)
+      goes (look s) (look-done (machine.after ours cs) s (reached-sound cs good) (ours-never-unsound .nowhere cs s)
       (and-left (eqb (length s) 8) (all (λ x. not (high x)) s) both) (and-right (eqb (length s) 8) (all (λ x. not (high x)) s) both))
   call-done (wrote r b) e =
       let past = done ours cs in
@@ -201,14 +201,14 @@ module _ (cs : List Call) (good : all fits cs ≡ true) where
       let may = and-right (leb b 0xFF && byteFits r b) (canWrite r) three in
       let fit = and-right (leb b 0xFF) (byteFits r b) (and-left (leb b 0xFF && byteFits r b) (canWrite r) three) in
       let back = write-back r may in
-      goes (write (place r) (b ∷ [])) (write-goes (machine.after ours cs) (place r) b (reached-sound cs good) (ap (allowed Write) back ∙ may) (ap (λ (x : Register). byteFits x b) back ∙ fit))
+      goes (write (place r) (b ∷ [])) (write-done (machine.after ours cs) (place r) b (reached-sound cs good) (ap (allowed Write) back ∙ may) (ap (λ (x : Register). byteFits x b) back ∙ fit))
       ∙ ap (λ (x : Register). wrote x b ∷ past) back
   call-done (got r) e =
       let past = done ours cs in
       let both = and-left (canRead r && all (λ n. ltb n 4) (pictured r)) (doable past) e in
       let may = and-left (canRead r) (all (λ n. ltb n 4) (pictured r)) both in
       let back = read-back r may (and-right (canRead r) (all (λ n. ltb n 4) (pictured r)) both) in
-      goes (read (place r) (0 ∷ [])) (read-goes (machine.after ours cs) (place r) (reached-sound cs good) (ap (allowed Read) back ∙ may))
+      goes (read (place r) (0 ∷ [])) (read-allowed (machine.after ours cs) (place r) (reached-sound cs good) (ap (allowed Read) back ∙ may))
       ∙ ap (λ (x : Register). got x ∷ past) back
 
 pub calls-done : (past : Past) → doable past ≡ true → done ours (callsOf past) ≡ past

@@ -6,7 +6,7 @@
 --    Waits z w        after some past, with some keys held, the codes w wait
 --    filled           n codes, whatever they are: the corner key pressed and released in turn
 --    told-code        a code of a key in the size, as key and way
---    one-more         where 15 wait, the oldest goes and a given code comes: the key is first put the other way, unheard since 15 wait,
+--    one-more         if 15 wait, the oldest goes and a given code comes: the key is first put the other way, unheard since 15 wait,
 --                     then a code is fetched, and then the key is put as the code says
 --    all-more         the same for a list of codes
 -- Assumes nothing.

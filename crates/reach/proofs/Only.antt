@@ -154,7 +154,7 @@ module _ (m : Module) (y : Typed m) (s : Said m) where
           (fetch-all (m .size) 1 h none (m .rsint) (m .rklint) (m .relint) j w
           (any-flags (m .size) (s .size) h h-ok (j ++ w) n (m .rsint) (m .rklint) (m .relint) t))))
 
-  -- KBDMSK, and RSTINTCLR where PORIRQ is to be clear
+  -- KBDMSK, and RSTINTCLR if PORIRQ is to be clear
   ended : (b : Bool) → b ≡ m .porirq → Known (m .size) (m .bounce) h r w (m .rsint) (m .rklint) (m .relint) l → (past : Past) × ((doable past ≡ true) × (shown past ≡ m))
   unfolding doable byteFits _is_ address bounce size mask held run history waiting relint marks rsint rklint porirq cleared without bit h r
   ended true e (past, (t, f)) =

@@ -1,7 +1,7 @@
 -- The samples in which given keys are closed.
 --
---    samplesOf f    eight samples: key k is closed where f k
---    told           a look with them sees f, where f closes no key out of the size
+--    samplesOf f    eight samples: key k is closed if f k
+--    told           a look with them sees f, if f closes no key out of the size
 --    eight          they are eight
 --    narrow, u16s   they have no bit above 12, and are of the type u16
 -- Assumes nothing.

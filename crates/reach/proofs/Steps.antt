@@ -4,11 +4,11 @@
 --    Keys past ..     what is known of a past: the size, KBDBOUNCE, the keys, the runs, the queue, and that PORIRQ is set
 --    quick, slow      a contact's step under KBDBOUNCE 1, and under 255 while its run is below 254
 --    contact-right    what a look makes of a key, by its run alone
---    no-changes, one-change    a look's changes where no key changes, and where one does
+--    no-changes, one-change    a look's changes if no key changes, and if one does
 --    Within z h       h closes no key out of the size z; within: nor does any past
 --    look-to          a look after which the keys are as f says
 --    look-full        the same while 15 codes wait: none is added
---    look-one         the look's changes, where f differs in one key
+--    look-one         the look's changes, if f differs in one key
 -- Assumes nothing.
 use Prim.Native.Nat.{ℕ, zero, suc, _+_, _-_, _≤_, _<_}
 use native.Mathlib.Nat.{le-refl}
@@ -147,7 +147,7 @@ module _ (past : Past) (z : ℕ) (h : ℕ → Bool) (r : ℕ → ℕ) (w : List 
           its-porirq = t .its-porirq;
         }
 
-    -- where 15 wait, every change is dropped
+    -- if 15 wait, every change is dropped
     pub look-full : Keys past z 1 h r w → length w ≡ 15 → Keys (looked (samplesOf f) ∷ past) z 1 f (λ _. 0) w
     look-full t n =
         let c = changes (samplesOf f) past in

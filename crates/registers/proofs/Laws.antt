@@ -1,8 +1,8 @@
 -- Laws of runs of addresses.
 --
---    run-none                 an access of no bytes has no address
---    run-stops, run-goes      the first address decides, or the rest does
---    no-address, small        above 0xFF there is no register; the number of a picture register fits a byte
+--    run-end             an access of no bytes has no address
+--    run-no, run-yes     the first address decides, or the rest does
+--    no-address, small   above 0xFF there is no register; the number of a picture register fits a byte
 -- Assumes nothing.
 use Prim.Native.Nat.{ℕ, zero, suc, _-_, _<_}
 use native.Mathlib.Nat.{not-suc-le-zero}
@@ -12,26 +12,26 @@ use mathlib.Core.Path.{_≡_, refl}
 use mathlib.Core.Bool.{true, false}
 use borrow.Author.Tests.{ne-eqb, lt-leb, le-leb}
 use Rattle.words.specs.Words.{all}
-use Rattle.words.proofs.Laws.{all-stops, all-goes}
+use Rattle.words.proofs.Laws.{all-no, all-yes}
 use Rattle.registers.specs.declared.Access.{Access}
 use Rattle.registers.specs.declared.Register.the-variants.{Unknown}
 use Rattle.registers.specs.Registers.{registerAt, allowed}
 use Rattle.registers.specs.Runs.{next, addresses, runAllowed}
 
 module _ (way : Access) (a : ℕ) where
-  pub run-none : runAllowed way a 0 ≡ true
+  pub run-end : runAllowed way a 0 ≡ true
   unfolding runAllowed addresses all
-  run-none = refl
+  run-end = refl
 
-  pub run-stops : (n : ℕ) → 0 < n → allowed way (registerAt a) ≡ false → runAllowed way a n ≡ false
+  pub run-no : (n : ℕ) → 0 < n → allowed way (registerAt a) ≡ false → runAllowed way a n ≡ false
   unfolding runAllowed addresses
-  run-stops zero h e = absurd (not-suc-le-zero h)
-  run-stops (suc n) h e = all-stops (λ b. allowed way (registerAt b)) a (addresses (next a) n) e
+  run-no zero h e = absurd (not-suc-le-zero h)
+  run-no (suc n) h e = all-no (λ b. allowed way (registerAt b)) a (addresses (next a) n) e
 
-  pub run-goes : (n : ℕ) → 0 < n → allowed way (registerAt a) ≡ true → runAllowed way a n ≡ runAllowed way (next a) (n - 1)
+  pub run-yes : (n : ℕ) → 0 < n → allowed way (registerAt a) ≡ true → runAllowed way a n ≡ runAllowed way (next a) (n - 1)
   unfolding runAllowed addresses
-  run-goes zero h e = absurd (not-suc-le-zero h)
-  run-goes (suc n) h e = simp sub-one (all-goes (λ b. allowed way (registerAt b)) a (addresses (next a) n) e)
+  run-yes zero h e = absurd (not-suc-le-zero h)
+  run-yes (suc n) h e = simp sub-one (all-yes (λ b. allowed way (registerAt b)) a (addresses (next a) n) e)
 
 -- "there is no address 0x100"
 pub no-address : (a : ℕ) → 0xFF < a → registerAt a ≡ Unknown

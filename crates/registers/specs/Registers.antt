@@ -3,7 +3,7 @@
 --    registerAt a        the register at an address
 --    canRead r, canWrite r    may the register be read, written?
 --    allowed way r       may it be accessed so?
---    afterReset r        what it reads after reset; 0 where it can't be read
+--    afterReset r        what it reads after reset; 0 if it can't be read
 --    r is KBDSIZE        the same register; the four of the picture count as one
 --    pictured r          which of the picture's four it is, if it is one
 use Prim.Native.Nat.{ℕ, _-_}
@@ -71,7 +71,7 @@ afterReset EVTCODE = 0x7F
 afterReset RSTINTCLR = 0
 afterReset Unknown = 0
 
--- the first address of a register; 0 where it has none
+-- the first address of a register; 0 if it has none
 unfoldable pub address : Register → ℕ
 address KBDBOUNCE = 0x02
 address KBDSIZE = 0x03

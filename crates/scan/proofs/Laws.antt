@@ -3,10 +3,10 @@
 --    putAll-none                with no code to put the queue stays as it is
 --    below-more                 one key more
 --    below-queue, below-some    what one key more does to the queue, and to whether there is a change
---    looked-noticed             the state after a look: keys and queue, and the flags where there is a change
+--    looked-noticed             the state after a look: keys and queue, and the flags if there is a change
 --    fits m s k                 key k is in the size, or doesn't change
 --    stray-none                 no change falls on a key out of the size
---    no-strays                  none does where the keys out of the size are open and have no run
+--    no-strays                  none does if the keys out of the size are open and have no run
 -- Assumes nothing.
 use Prim.Native.Nat.{ℕ, _+_, _<_}
 use native.Mathlib.Numerals.{add-one}

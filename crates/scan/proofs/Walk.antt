@@ -1,14 +1,14 @@
 -- The code's walk over the keys, row by row.
 --
---    row-none, row-next     a row before its first key, and from one key to the next
---    done m s k             what a look alters, once the keys below k are done
---    done-none              before the first key
---    done-row               from a row's first key to the next row's
---    done-rest              the rows out of the size are still
---    done-all               after the last key this is the state after the look
---    out-first              the keys of a row before `firstOut` fit
---    fits-row               from one row to the next: no key of it is a stray
---    fits-fails, fits-all   a stray is found, and none is found
+--    row-none, row-next   a row before its first key, and from one key to the next
+--    done m s k           what a look alters, once the keys below k are done
+--    done-none            before the first key
+--    done-row             from a row's first key to the next row's
+--    done-rest            the rows out of the size are still
+--    done-all             after the last key this is the state after the look
+--    out-first            the keys of a row before `firstOut` fit
+--    fits-yes             from one row to the next: no key of it is a stray
+--    fits-no, fits-all    a stray is found, and none is found
 -- Assumes nothing.
 use Prim.Native.Nat.{ℕ, zero, suc, _+_, _-_, _*_, _/_, _%_, _<_, _≤_}
 use native.Mathlib.Numerals.{add-one, unary-clauses}
@@ -25,7 +25,7 @@ use Rattle.words.proofs.Laws.{below-all}
 use Rattle.words.proofs.Tables.{replaced, replaced-none, replaced-all, replaced-at, replaced-next}
 use Rattle.keys.specs.Keys.{inSize, keyIn, sample}
 use Rattle.keys.proofs.Laws.{place-row, place-col, row-yes, sample-out}
-use Rattle.keys.proofs.Rows.{row-goes, row-stops}
+use Rattle.keys.proofs.Rows.{rows-yes, rows-no}
 use Rattle.contact.specs.Contact.{opposite, stepped}
 use Rattle.state.specs.declared.Module.{Module}
 use Rattle.state.specs.Module.{queueOf, withKeys, withQueue}
@@ -146,12 +146,12 @@ module _ (m : Module) (s : List ℕ) where
         go false e = rw (place-row row col (omega arith) (omega arith), place-col row col (omega arith) (omega arith), e)
 
     module _ {b : Bool} (below : allBelow (fits m s) (13 * row) ≡ true) (e : b ≡ not (allBelow (fitsAt (m .held) (m .run) (m .size) (m .bounce) row) 13)) where
-      pub fits-row : b ≡ false → allBelow (fits m s) (13 * (row + 1)) ≡ true
-      fits-row f = row-goes (fits m s) (fitsAt (m .held) (m .run) (m .size) (m .bounce) row) row h fits-place below (not-false _ (sym e ∙ f))
+      pub fits-yes : b ≡ false → allBelow (fits m s) (13 * (row + 1)) ≡ true
+      fits-yes f = rows-yes (fits m s) (fitsAt (m .held) (m .run) (m .size) (m .bounce) row) row h fits-place below (not-false _ (sym e ∙ f))
 
-      pub fits-fails : b ≡ true → true ≡ strays m s
+      pub fits-no : b ≡ true → true ≡ strays m s
       unfolding strays fits
-      fits-fails f = rw (row-stops (fits m s) (fitsAt (m .held) (m .run) (m .size) (m .bounce) row) row h fits-place below (not-true _ (sym e ∙ f)))
+      fits-no f = rw (rows-no (fits m s) (fitsAt (m .held) (m .run) (m .size) (m .bounce) row) row h fits-place below (not-true _ (sym e ∙ f)))
 
   pub fits-all : (k : ℕ) → k ≡ 104 → allBelow (fits m s) k ≡ true → false ≡ strays m s
   fits-all k all below = sym (stray-none m s (sym (ap (allBelow (fits m s)) all) ∙ below))

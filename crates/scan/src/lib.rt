@@ -1,7 +1,12 @@
 // What one look does to a module.
+use keys::COLS;
 use keys::Col;
+use keys::KEYS;
+use keys::ROW_KEYS;
+use keys::ROWS;
 use keys::Row;
 use state::Module;
+use state::PLACES;
 ghost use mathlib.Core.Path.{_≡_};
 ghost use mathlib.Core.Bool.{false, not, _||_};
 ghost use mathlib.Core.List.{List};
@@ -29,9 +34,9 @@ fn is_closed(sample: u16, size: u8, row: Row, col: Col) -> bool
 
 // What a look does to one key, to the queue, and to whether a key has changed.
 fn look_at(
-    held: &mut [bool; 104],
-    run: &mut [u8; 104],
-    places: &mut [u8; 15],
+    held: &mut [bool; KEYS],
+    run: &mut [u8; KEYS],
+    places: &mut [u8; PLACES],
     count: &mut u8,
     relint: &mut bool,
     any: &mut bool,
@@ -48,7 +53,7 @@ fn look_at(
 {
     let r = row.0;
     let c = col.0;
-    let key = 13 * (r as usize) + (c as usize);
+    let key = ROW_KEYS * (r as usize) + (c as usize);
     let x = contact::step(held[key], run[key], closed, bounce);
     held[key] = x.held;
     run[key] = x.run;
@@ -63,9 +68,9 @@ fn look_at(
 
 // What a look does to the keys of a row, by column.
 fn look_at_row(
-    held: &mut [bool; 104],
-    run: &mut [u8; 104],
-    places: &mut [u8; 15],
+    held: &mut [bool; KEYS],
+    run: &mut [u8; KEYS],
+    places: &mut [u8; PLACES],
     count: &mut u8,
     relint: &mut bool,
     any: &mut bool,
@@ -81,7 +86,7 @@ fn look_at_row(
         (parts (now (held .entry)) (now (run .entry)) (queue (now (places .entry)) (now (count .entry)) (now (relint .entry))) (now (any .entry))) 13 ⌝ }
 {
     let mut col: u8 = 0;
-    while col < 13 {
+    while col < COLS {
         let closed = is_closed(sample, size, Row(row), Col(col));
         look_at(
             held,
@@ -176,8 +181,8 @@ fn is_stray(held: bool, run: u8, size: u8, bounce: u8, row: Row, col: Col) -> bo
 
 // Is a key of this row out of the size, and does it change? Its sample counts as open.
 fn row_has_strays<'a>(
-    held: &'a [bool; 104],
-    run: &'a [u8; 104],
+    held: &'a [bool; KEYS],
+    run: &'a [u8; KEYS],
     size: u8,
     bounce: u8,
     row: u8,
@@ -186,8 +191,8 @@ fn row_has_strays<'a>(
     ensures { λ r. ⌜ r ≡ not (allBelow (walk.fitsAt (now (held .entry)) (now (run .entry)) size bounce row) 13) ⌝ }
 {
     let mut col = first_out(size, row);
-    while col < 13 {
-        let key = 13 * (row as usize) + (col as usize);
+    while col < COLS {
+        let key = ROW_KEYS * (row as usize) + (col as usize);
         if is_stray(held[key], run[key], size, bounce, Row(row), Col(col)) {
             return true;
         }
@@ -201,7 +206,7 @@ pub fn has_strays(m: Module) -> bool
     ensures { λ r. ⌜ ((samples : List ℕ) → r ≡ strays m samples) ⌝ }
 {
     let mut row: u8 = 0;
-    while row < 8 {
+    while row < ROWS {
         if row_has_strays(&m.held, &m.run, m.size, m.bounce, row) {
             return true;
         }

@@ -5,7 +5,7 @@
 --    codes-arriving                           every change arrives, in order
 --    kept-arriving                            while there is room a change is kept, then none is
 --    lost-arriving                            one is lost exactly when there are more than there is room for
---    all-kept                                 where none is lost, all are kept
+--    all-kept                                 if none is lost, all are kept
 -- Assumes nothing.
 use Prim.Native.Nat.{ℕ, suc, _+_, _-_, _≤_, _<_}
 use native.Mathlib.Decide.{decLt}

@@ -3,7 +3,7 @@
 --    count-waiting    how many wait is what was kept less what was taken
 --    ledger           the codes taken, then those that wait, are the demanded changes less those that came when 15 waited
 --    all-demanded     the arrivals are the demanded changes, each once and in order
---    none-lost        where none was lost, the codes taken and those that wait are all of them
+--    none-lost        if none was lost, the codes taken and those that wait are all of them
 -- Assumes nothing.
 use Prim.Native.Nat.{ℕ, _+_, _-_, _≤_}
 use native.Mathlib.Omega.{arith}

@@ -4,7 +4,7 @@
 --    change-opposite              a key changes to the opposite of what it was
 --    replay-before, replay-look   a key, replayed over the changes of keys before it, and over all of a look's
 --    replay-demanded              replaying the demanded changes gives the keys held now
---    replay                       so where none was lost, the codes do
+--    replay                       so if none was lost, the codes do
 --    legal-demanded, legal-codes  and each press is of a key that is up, each release of one that is down
 -- Assumes nothing.
 use Prim.Native.Nat.{ℕ, zero, suc, _≤_, _<_}
@@ -116,6 +116,6 @@ legal-demanded (looked s ∷ past) =
 legal-demanded (wrote r b ∷ past) = by-test (λ t. legal (cond t [] (demanded past)) ≡ true) (r is KBDSIZE) (λ e. refl) (λ e. legal-demanded past)
 legal-demanded (got r ∷ past) = legal-demanded past
 
--- where none was lost, each press is of a key that is up, each release of one that is down
+-- if none was lost, each press is of a key that is up, each release of one that is down
 pub legal-codes : (past : Past) → lost (arrivals past) ≡ [] → legal (taken past ++ waiting past) ≡ true
 legal-codes past none = rw (none-lost past none) (legal-demanded past)

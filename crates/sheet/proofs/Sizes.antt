@@ -2,10 +2,10 @@
 --
 --    writes f past                 f is true of every byte written, with its register
 --    byteLow, sizeFits             the byte is below 256; if it is for KBDSIZE, it is acceptable
---    bounce-low, size-ok           where they all do, so do the settings
+--    bounce-low, size-ok           if they all do, so do the settings
 --    out-open                      out of the size nothing is held and the run is 0
 --    out-still, changed-in         so no key out of the size changes: one that changes is in it
---    run-low                       no run is above 254, where every byte written fits a byte
+--    run-low                       no run is above 254, if every byte written fits a byte
 --    waiting-in                    every code that waits is of a key in the size
 -- Assumes nothing.
 use Prim.Native.Nat.{ℕ, _≤_}

@@ -13,7 +13,7 @@
 -- What is quoted is document 01, in its order but for the settings, which come first.
 -- A past has its newest happening first. Every table has the same four lines:
 -- after reset; after a look; after a byte was written; after a byte was read.
--- `A if T else B` is A where T is true, else B. `l ++ m` is l, then m; `c ∷ l` is c, then l. `&&` is and, `||` is or.
+-- `A if T else B` is A when T is true, else B. `l ++ m` is l, then m; `c ∷ l` is c, then l. `&&` is and, `||` is or.
 use Prim.Native.Nat.{ℕ, zero, suc, _+_, _%_}
 use mathlib.Core.Bool.{Bool, true, false, not, _&&_, _||_}
 use mathlib.Core.List.{List, [], _∷_, _++_}
@@ -47,7 +47,7 @@ Past = List Happening
 abbrev pub restarts : Register → Bool
 restarts r = r is KBDSIZE
 
--- RSINT, RKLINT or RELINT, once the byte b is written to r: cleared by a restart, and by KBDIC where bit n of b is 1
+-- RSINT, RKLINT or RELINT, once the byte b is written to r: cleared by a restart, and by KBDIC if bit n of b is 1
 unfoldable pub cleared : ℕ → Register → ℕ → Bool → Bool
 cleared n r b flag = false if restarts r else (without n flag b if r is KBDIC else flag)
 
@@ -209,7 +209,7 @@ unfoldable pub oldest : List ℕ → ℕ
 oldest [] = 0x7F
 oldest (c ∷ l) = c
 
--- what a read of the register gives; 0 where it can't be read. "The byte that completes the four is worked out before the clearing."
+-- what a read of the register gives; 0 if it can't be read. "The byte that completes the four is worked out before the clearing."
 unfoldable pub byteOf : Register → Past → ℕ
 byteOf KBDBOUNCE past = bounce past
 byteOf KBDSIZE past = size past

@@ -1,9 +1,9 @@
 -- Laws of soundness.
 --
---    sound-facts, facts-sound    computed or as facts, it is the same
---    fresh-sound                 the state after reset is sound
---    sound-out                   a key out of the size is open and has no run
---    rows-go, rows-stop          a row of keys is sound, or one is not
+--    sound-facts, facts-sound   computed or as facts, it is the same
+--    fresh-sound                the state after reset is sound
+--    sound-out                  a key out of the size is open and has no run
+--    keys-yes, keys-no          a row of keys is sound, or one is not
 -- Assumes nothing.
 use Prim.Native.Nat.{ℕ, _+_, _*_, _<_}
 use native.Mathlib.Omega.{arith}
@@ -17,7 +17,7 @@ use Rattle.words.specs.Words.{every, all, allBelow}
 use Rattle.words.proofs.Laws.{and-left, and-right, every-none, every-first, every-rest, every-cons, all-below, below-all}
 use Rattle.keys.specs.Keys.{acceptable, rowOf, colOf, inSize, keyIn}
 use Rattle.keys.proofs.Laws.{place-row, place-col}
-use Rattle.keys.proofs.Rows.{row-goes, row-stops}
+use Rattle.keys.proofs.Rows.{rows-yes, rows-no}
 use Rattle.state.specs.declared.Module.{Module}
 use Rattle.state.specs.Module.{fresh, forgotten}
 use Rattle.state.specs.Queue.{waiting}
@@ -71,9 +71,9 @@ module _ (size : ℕ) (held : List Bool) (run : List ℕ) (row : ℕ) (h : row <
   key-place col l = rw (place-row row col (omega arith) (omega arith), place-col row col (omega arith) (omega arith))
 
   module _ {b : Bool} (below : allBelow (λ k. keySound size k (getD held k false) (getD run k 0)) (13 * row) ≡ true) (e : b ≡ allBelow (placeSound size row held run) 13) where
-    pub rows-go : b ≡ true → allBelow (λ k. keySound size k (getD held k false) (getD run k 0)) (13 * (row + 1)) ≡ true
-    rows-go f = row-goes (λ k. keySound size k (getD held k false) (getD run k 0)) (placeSound size row held run) row h key-place below (sym e ∙ f)
+    pub keys-yes : b ≡ true → allBelow (λ k. keySound size k (getD held k false) (getD run k 0)) (13 * (row + 1)) ≡ true
+    keys-yes f = rows-yes (λ k. keySound size k (getD held k false) (getD run k 0)) (placeSound size row held run) row h key-place below (sym e ∙ f)
 
-    pub rows-stop : b ≡ false → false ≡ keysSound size held run
+    pub keys-no : b ≡ false → false ≡ keysSound size held run
     unfolding keysSound
-    rows-stop f = sym (row-stops (λ k. keySound size k (getD held k false) (getD run k 0)) (placeSound size row held run) row h key-place below (sym e ∙ f))
+    keys-no f = sym (rows-no (λ k. keySound size k (getD held k false) (getD run k 0)) (placeSound size row held run) row h key-place below (sym e ∙ f))

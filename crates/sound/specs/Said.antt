@@ -4,7 +4,7 @@
 --    Code size c    the byte c is "a press or release code of a key in the size"
 --    Said m         document 01's sentences hold of the module m
 --
--- That the module judges a state sound exactly when they hold, is proofs/Exactly.antt.
+-- The module judges a state sound exactly when they hold: proofs/Exactly.antt.
 use Prim.Native.Nat.{ℕ, _+_, _*_, _≤_, _<_}
 use mathlib.Core.Path.{_≡_}
 use mathlib.Core.Logic.{_⊎_}

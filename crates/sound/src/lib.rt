@@ -1,7 +1,12 @@
 // Soundness, as document 01 lists it.
+use keys::COLS;
 use keys::Col;
+use keys::KEYS;
+use keys::ROW_KEYS;
+use keys::ROWS;
 use keys::Row;
 use state::Module;
+use state::PLACES;
 ghost use mathlib.Core.Path.{_≡_};
 ghost use mathlib.Core.Bool.{true, false, not, _&&_};
 ghost use Prim.Native.Nat.{_<_};
@@ -35,13 +40,13 @@ fn key_sound(size: u8, row: Row, col: Col, held: bool, run: u8) -> bool
 }
 
 // What is asked of the keys of a row.
-fn row_sound<'a>(size: u8, row: u8, held: &'a [bool; 104], run: &'a [u8; 104]) -> bool
+fn row_sound<'a>(size: u8, row: u8, held: &'a [bool; KEYS], run: &'a [u8; KEYS]) -> bool
     requires { ⌜ row < 8 ⌝ }
     ensures { λ r. ⌜ r ≡ allBelow (placeSound size row (now (held .entry)) (now (run .entry))) 13 ⌝ }
 {
     let mut col: u8 = 0;
-    while col < 13 {
-        let key = 13 * (row as usize) + (col as usize);
+    while col < COLS {
+        let key = ROW_KEYS * (row as usize) + (col as usize);
         if !key_sound(size, Row(row), Col(col), held[key], run[key]) {
             return false;
         }
@@ -51,11 +56,11 @@ fn row_sound<'a>(size: u8, row: u8, held: &'a [bool; 104], run: &'a [u8; 104]) -
 }
 
 // What is asked of all keys.
-fn keys_sound<'a>(size: u8, held: &'a [bool; 104], run: &'a [u8; 104]) -> bool
+fn keys_sound<'a>(size: u8, held: &'a [bool; KEYS], run: &'a [u8; KEYS]) -> bool
     ensures { λ r. ⌜ r ≡ keysSound size (now (held .entry)) (now (run .entry)) ⌝ }
 {
     let mut row: u8 = 0;
-    while row < 8 {
+    while row < ROWS {
         if !row_sound(size, row, held, run) {
             return false;
         }
@@ -65,14 +70,14 @@ fn keys_sound<'a>(size: u8, held: &'a [bool; 104], run: &'a [u8; 104]) -> bool
 }
 
 // What is asked of the codes that wait.
-fn codes_sound(size: u8, places: &[u8; 15], count: u8) -> bool
+fn codes_sound(size: u8, places: &[u8; PLACES], count: u8) -> bool
     requires { ⌜ acceptable size ≡ true ⌝ }
     ensures { λ r. ⌜ r ≡ codesSound size (queue (now (places .entry)) count false) ⌝ }
 {
     // a slice's length is known
     let bytes: &[u8] = places;
     let mut i: usize = 0;
-    while i < 15 {
+    while i < PLACES {
         if count as usize <= i {
             return true;
         }
@@ -85,14 +90,14 @@ fn codes_sound(size: u8, places: &[u8; 15], count: u8) -> bool
 }
 
 // What is asked of the places after them.
-fn rest_unused(places: &[u8; 15], count: u8) -> bool
+fn rest_unused(places: &[u8; PLACES], count: u8) -> bool
     ensures { λ r. ⌜ r ≡ restUnused (queue (now (places .entry)) count false) ⌝ }
 {
     // a slice's length is known
     let bytes: &[u8] = places;
     let mut i = count as usize;
-    while i < 15 {
-        if bytes[i] != 0x7F {
+    while i < PLACES {
+        if bytes[i] != keys::NO_CODE {
             return false;
         }
         i = i + 1;
@@ -113,7 +118,7 @@ pub fn is_sound(m: Module) -> bool
     if !keys_sound(size, &m.held, &m.run) {
         return false;
     }
-    if 15 < count {
+    if state::FULL < count {
         return false;
     }
     if !codes_sound(size, &m.queue, count) {

@@ -3,7 +3,7 @@
 --
 --    Typed m    held: [bool; 104], run: [u8; 104], queue: [u8; 15], bounce: u8, seen: [bool; 4]; of the other fields soundness says more than their types do
 --
--- That every value of the struct's type is so, is proofs/Types.antt.
+-- Every value of the type of the struct is so: proofs/Types.antt.
 use Prim.Native.Nat.{ℕ, _<_, _≤_}
 use mathlib.Core.Path.{_≡_}
 use lib.ListN.{length, getD}

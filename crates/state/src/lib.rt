@@ -1,18 +1,26 @@
 // The module state: what the panel remembers.
 pub mod queue;
 
+use keys::KEYS;
+use keys::NO_CODE;
 ghost use mathlib.Core.Path.{_≡_};
 ghost use Rattle.state.specs.Module.{fresh, restarted};
+
+// How many codes can wait.
+pub const PLACES: usize = 15;
+
+// The count of a full queue.
+pub const FULL: u8 = PLACES as u8;
 
 // Key k is 13 × row + column. REVTINT, KBDMIS and the interrupt line are worked out, never stored.
 #[repr(C)]
 pub struct Module {
     // is the key held?
-    pub held: [bool; 104],
+    pub held: [bool; KEYS],
     // the key's run: how many of its newest samples in a row are the opposite of how it is held
-    pub run: [u8; 104],
-    // the codes that wait, oldest first from the first place; unused places hold 0x7F
-    pub queue: [u8; 15],
+    pub run: [u8; KEYS],
+    // the codes that wait, oldest first from the first place; unused places hold NO_CODE
+    pub queue: [u8; PLACES],
     // how many wait
     pub count: u8,
     // KBDBOUNCE
@@ -34,9 +42,9 @@ pub fn fresh() -> Module
     ensures { λ r. ⌜ r ≡ fresh ⌝ }
 {
     Module {
-        held: [false; 104],
-        run: [0; 104],
-        queue: [0x7F; 15],
+        held: [false; KEYS],
+        run: [0; KEYS],
+        queue: [NO_CODE; PLACES],
         count: 0,
         bounce: 0x03,
         size: 0x22,

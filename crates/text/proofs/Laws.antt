@@ -1,17 +1,17 @@
 -- Laws of the page, of a line's words and of their digits.
 --
---    wrote-end, wrote-next            a text is written byte by byte
---    listed-end, listed-next          bytes are listed one by one
---    up-to-end, up-to-stop, up-to-go  a line is passed up to a byte of one kind
---    up-to-most                       no further than the line's end
---    same-end, same-stop, same-go     two words of one length, compared byte by byte
---    same-apart                       words of two lengths are not the same
---    digits-end, digits-stop, digits-go    a word's digits, one by one
---    told-most                        digits behind a number never make it smaller
---    told-held                        digits behind a number that is held at a most tell the same up to that most
---    told-end, told-go                the number that digits tell, held at a most: no digit is left, or one more
---    product-most                     a number held at 4,294,967,296, with one digit more, is far from wrapping
---    number-none, number-no-digit, number-large, number-value    the four answers of `numberOf`
+--    wrote-end, wrote-next               a text is written byte by byte
+--    listed-end, listed-next             bytes are listed one by one
+--    up-to-end, up-to-yes, up-to-no      a line is passed up to a byte of one kind
+--    up-to-most                          no further than the line's end
+--    same-end, same-no, same-yes         two words of one length, compared byte by byte
+--    same-apart                          words of two lengths are not the same
+--    digits-end, digits-no, digits-yes   a word's digits, one by one
+--    told-most                           digits behind a number never make it smaller
+--    told-held                           digits behind a number that is held at a most tell the same up to that most
+--    told-end, told-yes                  the number that digits tell, held at a most: no digit is left, or one more
+--    product-most                        a number held at 4,294,967,296, with one digit more, is far from wrapping
+--    number-none, number-no-digit, number-large, number-value   the four answers of `numberOf`
 -- Assumes nothing.
 use Prim.Native.Nat.{ℕ, zero, suc, _+_, _-_, _*_, _/_, _%_, _≤_, _<_, min}
 use native.Mathlib.Nat.{mul-le-mul, le-mul-of-pos-right, min-eq-left, min-eq-right, le-trans, le-of-lt}
@@ -28,7 +28,7 @@ use Rattle.text.specs.declared.page.Page.{Page}
 use Rattle.text.specs.Pages.{put, wrote, twoDigits, listed}
 use Rattle.text.specs.Line.{blank, upTo, same}
 use Rattle.words.specs.Words.{some}
-use Rattle.words.proofs.Laws.{all-end, all-stop-at, all-go-at}
+use Rattle.words.proofs.Laws.{all-end, all-at-no, all-at-yes}
 use Rattle.text.specs.declared.number.Fault.the-variants.{TooFew, NoDigit, TooLarge}
 use Rattle.text.specs.declared.number.Number.the-variants.{Value, Wrong}
 use Rattle.text.specs.Digits.{digit, digits, told, numberOf, lastDigits}
@@ -66,13 +66,13 @@ module _ (t : Bool) (l : List ℕ) (i : ℕ) where
   up-to-end h = rw (drop-of-length-le l h)
 
   module _ (h : i < length l) (c : Bool) (e : c ≡ blank (getD l i 0)) where
-    pub up-to-stop : Bool·beq c t ≡ true → upTo t (drop i l) ≡ 0
+    pub up-to-yes : Bool·beq c t ≡ true → upTo t (drop i l) ≡ 0
     unfolding upTo
-    up-to-stop s = rw (drop-cons l i 0 h, ← e, s)
+    up-to-yes s = rw (drop-cons l i 0 h, ← e, s)
 
-    pub up-to-go : Bool·beq c t ≡ false → upTo t (drop i l) ≡ suc (upTo t (drop (i + 1) l))
+    pub up-to-no : Bool·beq c t ≡ false → upTo t (drop i l) ≡ suc (upTo t (drop (i + 1) l))
     unfolding upTo
-    up-to-go s = rw (drop-cons l i 0 h, ← e, s, add-one i)
+    up-to-no s = rw (drop-cons l i 0 h, ← e, s, add-one i)
 
 pub same-apart : (a b : List ℕ) → (length a ≡ length b → ⊥) → same a b ≡ false
 unfolding same
@@ -91,13 +91,13 @@ module _ (a b : List ℕ) (i : ℕ) where
   same-end h k = rw (drop-of-length-le a h, drop-of-length-le b k)
 
   module _ (h : i < length a) (k : i < length b) where
-    pub same-stop : (getD a i 0 ≡ getD b i 0 → ⊥) → same (drop i a) (drop i b) ≡ false
+    pub same-no : (getD a i 0 ≡ getD b i 0 → ⊥) → same (drop i a) (drop i b) ≡ false
     unfolding same
-    same-stop n = rw (drop-cons a i 0 h, drop-cons b i 0 k, ne-eqb _ _ n)
+    same-no n = rw (drop-cons a i 0 h, drop-cons b i 0 k, ne-eqb _ _ n)
 
-    pub same-go : getD a i 0 ≡ getD b i 0 → same (drop i a) (drop i b) ≡ same (drop (i + 1) a) (drop (i + 1) b)
+    pub same-yes : getD a i 0 ≡ getD b i 0 → same (drop i a) (drop i b) ≡ same (drop (i + 1) a) (drop (i + 1) b)
     unfolding same
-    same-go e = rw (drop-cons a i 0 h, drop-cons b i 0 k, eq-eqb _ _ e, add-one i)
+    same-yes e = rw (drop-cons a i 0 h, drop-cons b i 0 k, eq-eqb _ _ e, add-one i)
 
 module _ (base : ℕ) (w : List ℕ) (i : ℕ) where
   pub digits-end : length w ≤ i → digits base (drop i w) ≡ true
@@ -105,13 +105,13 @@ module _ (base : ℕ) (w : List ℕ) (i : ℕ) where
   digits-end h = all-end _ w i h
 
   module _ (h : i < length w) (d : ℕ) (e : d ≡ digit (getD w i 0)) where
-    pub digits-stop : base ≤ d → digits base (drop i w) ≡ false
+    pub digits-no : base ≤ d → digits base (drop i w) ≡ false
     unfolding digits
-    digits-stop l = all-stop-at _ w i 0 h (rw (← e) (le-ltb d base l))
+    digits-no l = all-at-no _ w i 0 h (rw (← e) (le-ltb d base l))
 
-    pub digits-go : d < base → digits base (drop i w) ≡ digits base (drop (i + 1) w)
+    pub digits-yes : d < base → digits base (drop i w) ≡ digits base (drop (i + 1) w)
     unfolding digits
-    digits-go l = all-go-at _ w i 0 h (rw (← e) (lt-ltb d base l))
+    digits-yes l = all-at-yes _ w i 0 h (rw (← e) (lt-ltb d base l))
 
 module _ (base : ℕ) (one : 0 < base) where
   pub told-most : (v : ℕ) (w : List ℕ) → v ≤ told base v w
@@ -138,8 +138,8 @@ module _ (base over v : ℕ) (w : List ℕ) (i : ℕ) where
   unfolding told
   told-next h d e = rw (drop-cons w i 0 h, add-one i, e)
 
-  pub told-go : i < length w → (d : ℕ) → d ≡ digit (getD w i 0) → d < base → (n : ℕ) → n ≡ min (v * base + d) over → min (told base v (drop i w)) over ≡ min (told base n (drop (i + 1) w)) over
-  told-go h d e l n f = rw (told-next h d e, f) (sym (told-held base (omega arith) over (v * base + d) (drop (i + 1) w)))
+  pub told-yes : i < length w → (d : ℕ) → d ≡ digit (getD w i 0) → d < base → (n : ℕ) → n ≡ min (v * base + d) over → min (told base v (drop i w)) over ≡ min (told base n (drop (i + 1) w)) over
+  told-yes h d e l n f = rw (told-next h d e, f) (sym (told-held base (omega arith) over (v * base + d) (drop (i + 1) w)))
 
 pub product-most : (v base : ℕ) → v ≤ 4294967296 → base ≤ 16 → v * base ≤ 68719476736
 product-most v base h k = mul-le-mul h k
@@ -174,17 +174,17 @@ wrote-last p [] x = refl
 wrote-last p (b ∷ t) x = wrote-last (put p b) t x
 
 module _ (p : Page) (n : ℕ) where
-  pub last-none : (k : ℕ) → k < 1 → p ≡ wrote p (lastDigits k n)
+  pub last-end : (k : ℕ) → k < 1 → p ≡ wrote p (lastDigits k n)
   unfolding wrote lastDigits
-  last-none zero h = refl
-  last-none (suc k) h = absurd (omega arith)
+  last-end zero h = refl
+  last-end (suc k) h = absurd (omega arith)
 
   pub last-one : (k : ℕ) → 1 ≤ k → n < 10 → put p (n % 10 + 48) ≡ wrote p (lastDigits k n)
   unfolding wrote lastDigits
   last-one zero h l = absurd (omega arith)
   last-one (suc k) h l = rw (lt-ltb n 10 l)
 
-  pub last-more : (k : ℕ) → 1 ≤ k → 10 ≤ n → (q : Page) → q ≡ wrote p (lastDigits (k - 1) (n / 10)) → put q (n % 10 + 48) ≡ wrote p (lastDigits k n)
+  pub last-next : (k : ℕ) → 1 ≤ k → 10 ≤ n → (q : Page) → q ≡ wrote p (lastDigits (k - 1) (n / 10)) → put q (n % 10 + 48) ≡ wrote p (lastDigits k n)
   unfolding lastDigits
-  last-more zero h l q e = absurd (omega arith)
-  last-more (suc k) h l q e = rw (le-ltb n 10 l, wrote-last p (lastDigits k (n / 10)) (n % 10 + 48), e, sub-one)
+  last-next zero h l q e = absurd (omega arith)
+  last-next (suc k) h l q e = rw (le-ltb n 10 l, wrote-last p (lastDigits k (n / 10)) (n % 10 + 48), e, sub-one)

@@ -1,18 +1,18 @@
 -- Laws of the words.
 --
---    true-false                           true is not false
---    and-left, and-right, and-both        a conjunction, taken apart and put together
---    every-first, every-rest, every-cons  the same of `every`
---    every-stops, every-goes              the first item decides, or the rest does
---    every-none, every-one, every-later   of no item; of one; and it fails where the rest does
---    all-first, all-rest, all-cons        the same of `all`
---    all-stops, all-goes
---    all-below, below-all                 `allBelow` as a statement about every number
---    below-next, below-fails              one number more, and a number of which it is false
---    below-fewer, below-still             true below fewer, and false below more
---    below-split, below-same              the numbers below a and those from a on; of functions that are alike below n
---    all-end, all-stop-at, all-go-at      a list walked from the front: its end, an item that decides, one that is passed
---    front-end, front-stops, front-goes   the same of the list's first n items
+--    true-false                            true is not false
+--    and-left, and-right, and-both         a conjunction, taken apart and put together
+--    every-first, every-rest, every-cons   the same of `every`
+--    every-no, every-yes                   the first item decides, or the rest does
+--    every-none, every-one, every-later    of no item; of one; and it fails if the rest does
+--    all-first, all-rest, all-cons         the same of `all`
+--    all-no, all-yes
+--    all-below, below-all                  `allBelow` as a statement about every number
+--    below-next, below-fails               one number more, and a number of which it is false
+--    below-fewer, below-still              true below fewer, and false below more
+--    below-split, below-same               the numbers below a and those from a on; of functions that are alike below n
+--    all-end, all-at-no, all-at-yes        a list walked from the front: its end, an item that decides, one that is passed
+--    front-end, front-no, front-yes        the same of the list's first n items
 -- Assumes nothing.
 use Prim.Native.Nat.{ℕ, zero, suc, _+_, _<_, _≤_, min}
 use native.Mathlib.Nat.{not-suc-le-zero}
@@ -53,13 +53,13 @@ module _ (b : Bool) (l : List Bool) where
   unfolding every
   every-cons e f = and-both b (every l) e f
 
-  pub every-stops : b ≡ false → every (b ∷ l) ≡ false
+  pub every-no : b ≡ false → every (b ∷ l) ≡ false
   unfolding every
-  every-stops e = rw e
+  every-no e = rw e
 
-  pub every-goes : b ≡ true → every (b ∷ l) ≡ every l
+  pub every-yes : b ≡ true → every (b ∷ l) ≡ every l
   unfolding every
-  every-goes e = rw e
+  every-yes e = rw e
 
 pub every-none : every [] ≡ true
 unfolding every
@@ -86,13 +86,13 @@ module _ {A : Type 0} (f : A → Bool) (x : A) (l : List A) where
   unfolding all
   all-cons e h = and-both (f x) (all f l) e h
 
-  pub all-stops : f x ≡ false → all f (x ∷ l) ≡ false
+  pub all-no : f x ≡ false → all f (x ∷ l) ≡ false
   unfolding all
-  all-stops e = rw e
+  all-no e = rw e
 
-  pub all-goes : f x ≡ true → all f (x ∷ l) ≡ all f l
+  pub all-yes : f x ≡ true → all f (x ∷ l) ≡ all f l
   unfolding all
-  all-goes e = rw e
+  all-yes e = rw e
 
 module _ (f : ℕ → Bool) where
   pub below-next : (n : ℕ) → allBelow f n ≡ true → f n ≡ true → allBelow f (n + 1) ≡ true
@@ -148,21 +148,21 @@ module _ {A : Type 0} (f : A → Bool) (l : List A) (i : ℕ) where
   unfolding all
   all-end h = rw (drop-of-length-le l h)
 
-  pub all-stop-at : (d : A) → i < length l → f (getD l i d) ≡ false → all f (drop i l) ≡ false
-  all-stop-at d h e = rw (drop-cons l i d h) (all-stops f (getD l i d) (drop (suc i) l) e)
+  pub all-at-no : (d : A) → i < length l → f (getD l i d) ≡ false → all f (drop i l) ≡ false
+  all-at-no d h e = rw (drop-cons l i d h) (all-no f (getD l i d) (drop (suc i) l) e)
 
-  pub all-go-at : (d : A) → i < length l → f (getD l i d) ≡ true → all f (drop i l) ≡ all f (drop (i + 1) l)
-  all-go-at d h e = rw (drop-cons l i d h, add-one i) (all-goes f (getD l i d) (drop (suc i) l) e)
+  pub all-at-yes : (d : A) → i < length l → f (getD l i d) ≡ true → all f (drop i l) ≡ all f (drop (i + 1) l)
+  all-at-yes d h e = rw (drop-cons l i d h, add-one i) (all-yes f (getD l i d) (drop (suc i) l) e)
 
 module _ {A : Type 0} (f : A → Bool) (l : List A) (n i : ℕ) where
   front-long : i < n → i < length l → i < length (take n l)
   front-long h k = rw (length-take n l) (omega arith)
 
-  pub front-stops : (d : A) → i < n → i < length l → f (getD l i d) ≡ false → all f (drop i (take n l)) ≡ false
-  front-stops d h k e = all-stop-at f (take n l) i d (front-long h k) (ap f (getD-take n l i d h) ∙ e)
+  pub front-no : (d : A) → i < n → i < length l → f (getD l i d) ≡ false → all f (drop i (take n l)) ≡ false
+  front-no d h k e = all-at-no f (take n l) i d (front-long h k) (ap f (getD-take n l i d h) ∙ e)
 
-  pub front-goes : (d : A) → i < n → i < length l → f (getD l i d) ≡ true → all f (drop i (take n l)) ≡ all f (drop (i + 1) (take n l))
-  front-goes d h k e = all-go-at f (take n l) i d (front-long h k) (ap f (getD-take n l i d h) ∙ e)
+  pub front-yes : (d : A) → i < n → i < length l → f (getD l i d) ≡ true → all f (drop i (take n l)) ≡ all f (drop (i + 1) (take n l))
+  front-yes d h k e = all-at-yes f (take n l) i d (front-long h k) (ap f (getD-take n l i d h) ∙ e)
 
   pub front-end : min n (length l) ≤ i → all f (drop i (take n l)) ≡ true
   front-end h = all-end f (take n l) i (rw (length-take n l) h)

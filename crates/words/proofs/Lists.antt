@@ -1,7 +1,7 @@
 -- Laws of tests and plain lists.
 --
---    by-test                          what holds where a test is true, and where it is false, holds
---    some-append                      a list after another has an item where either has
+--    by-test                          what holds if a test is true, and if it is false, holds
+--    some-append                      a list after another has an item if either has
 --    all-none, all-one                a test of no item, and of one
 --    all-append, all-take, all-drop   a test of a list's parts; all-replicate: of one item many times
 --    all-at, all-of                   a test of a list, place by place; all-anywhere: also past its end

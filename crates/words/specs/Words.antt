@@ -1,13 +1,13 @@
 -- Words that let a definition be read aloud.
 --
---    A if T else B    A where T is true, else B
+--    A if T else B    A when T is true, else B
 --    every l          every Bool of the list l is true
 --    all f l          f is true of every item of the list l
 --    allBelow f n     f is true of every number below n
 --    among n l        the number n is in the list l
 --    some l           the list l has an item
 --    bit c b          bit c of the number b is 1
---    without c f b    the flag f, cleared where bit c of the byte b is 1
+--    without c f b    the flag f, cleared if bit c of the byte b is 1
 --    table f n        the list f 0, f 1, .. of n items
 use Prim.Native.Nat.{ℕ, zero, suc, _+_, _/_, _%_, _^_}
 use mathlib.Core.Bool.{Bool, true, false, cond, _&&_, _||_}

@@ -1,4 +1,4 @@
--- `access::fetch` meets its contract: where no code waits the rest is 0x7F; else one code is taken out, and the rest of the buffer is lent to the same rule, which its length bounds.
+-- `access::fetch` meets its contract: if no code waits the rest is 0x7F; else one code is taken out, and the rest of the buffer is lent to the same rule, which its length bounds.
 -- Assumes nothing.
 use Prim.Native.Nat.{ℕ, _<_}
 use native.Mathlib.Omega.{arith}
@@ -6,7 +6,7 @@ use mathlib.Core.Path.{_∙_}
 use lib.ListN.{length, length-take, length-drop, length-set}
 use borrow.Author.Needs.{needs}
 use Rattle.state.specs.Module.{queue, withQueue}
-use Rattle.access.proofs.Laws.{taken-code, read-none, none-read, back-length, read-more, evtcode-at, evtcode-stays}
+use Rattle.access.proofs.Laws.{taken-code, read-end, none-read, back-length, read-more, evtcode-at, evtcode-stays}
 use borrow.Fn.Kinds.{In}
 use borrow.Fn.PlainCycle.{Measures, is, falls, and}
 use Rattle.access.proofs.fetch.Reads as fetch
@@ -53,7 +53,7 @@ fetch-returns t c =
 fetch-returns-2 : (t : ℕ) → fetch-lts.Need-returns-2 (claims t) (fetch-at t) fetch.Post
 fetch-returns-2 t c =
     let a = c .before .before .before .before .args in
-    λ m. read-none (withQueue m (queue (a .places .now) (a .count .now) (m .relint))) 0x10 (a .out .now) (c .if2 .taken)
+    λ m. read-end (withQueue m (queue (a .places .now) (a .count .now) (m .relint))) 0x10 (a .out .now) (c .if2 .taken)
 
 fetch-take-oldest-requires : (t : ℕ) → fetch-lts.Need-take-oldest-requires (claims t) (fetch-at t) fetch.Post
 fetch-take-oldest-requires t c κs = search needs

@@ -6,7 +6,7 @@ use lib.ListN.{length, length-take, length-drop, length-set}
 use borrow.Author.Needs.{needs}
 use Rattle.state.specs.declared.Module.{Module}
 use Rattle.access.specs.Lent.{lent}
-use Rattle.access.proofs.Laws.{read-none, back-length, read-more}
+use Rattle.access.proofs.Laws.{read-end, back-length, read-more}
 use borrow.Fn.Kinds.{In}
 use borrow.Fn.PlainCycle.{Measures, is, falls, and}
 use Rattle.access.proofs.fill_from.Reads as fill-from
@@ -46,7 +46,7 @@ abbrev entry : (t : ℕ) → fill-from-lts.Start (claims t) (fill-from-at t) fil
 entry t s m = let a = s .args in lent m (a .held .now) (a .shown) (a .places .now) (a .count .now) (a .rsint .now) (a .seen .now)
 
 fill-from-returns : (t : ℕ) → fill-from-lts.Need-returns (claims t) (fill-from-at t) fill-from.Post
-fill-from-returns t c = let s = c .before .before in λ m. read-none (entry t s m) (s .args .first) (s .args .out .now) (c .if1 .taken)
+fill-from-returns t c = let s = c .before .before in λ m. read-end (entry t s m) (s .args .first) (s .args .out .now) (c .if1 .taken)
 
 fill-from-register-at-requires : (t : ℕ) → fill-from-lts.Need-register-at-requires (claims t) (fill-from-at t) fill-from.Post
 fill-from-register-at-requires t c κs = search needs

@@ -5,7 +5,7 @@ use mathlib.Core.Path.{_≡_, refl, sym, _∙_}
 use lib.ListN.{length, drop}
 use borrow.Author.Needs.{needs}
 use Rattle.access.specs.Accesses.{wrote}
-use Rattle.access.proofs.Laws.{wrote-none, wrote-next}
+use Rattle.access.proofs.Laws.{wrote-end, wrote-next}
 use Rattle.access.proofs.wrote.Statement.{statement}
 use Rattle.access.proofs.wrote.Tie as tie
 
@@ -45,7 +45,7 @@ loop-again c =
     )
 
 returns : tie.Need-returns Inv-loop μ-loop
-returns c = let l = c .before .loop in sym (l .inv .1 ∙ wrote-none (l .after) (l .address) _ (l .i) (c .loop-test .left))
+returns c = let l = c .before .loop in sym (l .inv .1 ∙ wrote-end (l .after) (l .address) _ (l .i) (c .loop-test .left))
 
 pub wrote-spec : {M : Type 1} → statement M
 wrote-spec =

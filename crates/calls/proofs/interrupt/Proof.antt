@@ -3,7 +3,7 @@
 use native.Mathlib.Omega.{arith}
 use mathlib.Core.Path.{sym, _∙_}
 use borrow.Author.Tests.{not-true, not-false}
-use Rattle.numbers.proofs.Laws.{ends}
+use Rattle.numbers.proofs.Laws.{lines-end}
 use Rattle.calls.specs.Calls.{interruptNumber, interruptCall}
 use Rattle.calls.proofs.Laws.{unsound-first, sound-then, answer-done, answer-declined}
 use borrow.Author.Needs.{needs}
@@ -27,7 +27,7 @@ unfolding interruptCall interruptNumber
 returns-2 c =
     let m = c .before .before .before .args .m in
     let ok = sym (c .before .before .is-sound .ensures) ∙ not-false _ (c .before .if1 .left) in
-    answer-done m _ _ _ (c .line .ensures) (sound-then m _ ok ∙ ends)
+    answer-done m _ _ _ (c .line .ensures) (sound-then m _ ok ∙ lines-end)
 
 pub interrupt-spec : {M : Type 1} → statement M
 interrupt-spec = tie.close (tie.spec is-sound-requires returns line-requires returns-2)

@@ -3,7 +3,7 @@
 use native.Mathlib.Omega.{arith}
 use mathlib.Core.Path.{sym, _∙_}
 use borrow.Author.Tests.{not-true, not-false}
-use Rattle.numbers.proofs.Laws.{stops, goes, ends}
+use Rattle.numbers.proofs.Laws.{line-yes, line-no, lines-end}
 use Rattle.keys.proofs.Laws.{rows-most}
 use Rattle.sound.proofs.Laws.{sound-facts, sound-out}
 use Rattle.judge.proofs.Laws.{eight-samples}
@@ -43,7 +43,7 @@ returns-3 c =
     let ok = sym (c .before .before .before .before .before .is-sound .ensures) ∙ not-false _ (c .before .before .before .before .if1 .left) in
     let eight = sym (c .before .before .before .of-samples .ensures) ∙ c .before .before .if2 .left in
     let stray = sym (c .before .has-strays .ensures (a .samples .now)) ∙ c .if3 .taken in
-    outcome-declined (a .m) _ 9 _ (look-strays (a .m) (a .samples .now) ok eight ∙ stops _ 9 _ stray) (λ e. omega arith)
+    outcome-declined (a .m) _ 9 _ (look-strays (a .m) (a .samples .now) ok eight ∙ line-yes _ 9 _ stray) (λ e. omega arith)
 
 looked-requires : tie.Need-looked-requires
 looked-requires c κs =
@@ -59,7 +59,7 @@ returns-4 c =
     let ok = sym (c .before .before .before .before .before .before .is-sound .ensures) ∙ not-false _ (c .before .before .before .before .before .if1 .left) in
     let eight = sym (c .before .before .before .before .of-samples .ensures) ∙ c .before .before .before .if2 .left in
     let within = sym (c .before .before .has-strays .ensures (a .samples .now)) ∙ c .before .if3 .left in
-    outcome-done (a .m) _ _ _ (c .looked .ensures) (look-strays (a .m) (a .samples .now) ok eight ∙ goes _ 9 _ within ∙ ends)
+    outcome-done (a .m) _ _ _ (c .looked .ensures) (look-strays (a .m) (a .samples .now) ok eight ∙ line-no _ 9 _ within ∙ lines-end)
 
 pub look-spec : {M : Type 1} → statement M
 look-spec =

@@ -6,7 +6,7 @@ use lib.ListN.{length, drop}
 use borrow.Author.Needs.{needs}
 use borrow.Author.Tests.{not-true, not-false}
 use Rattle.judge.specs.Lines.{sizesFit}
-use Rattle.judge.proofs.Laws.{sizes-none, sizes-stop, sizes-go}
+use Rattle.judge.proofs.Laws.{sizes-end, sizes-no, sizes-yes}
 use Rattle.judge.proofs.are_fit.Statement.{statement}
 use Rattle.judge.proofs.are_fit.Tie as tie
 
@@ -33,7 +33,7 @@ returns c =
     let l = c .before .before .before .before .before .loop in
     let more = c .before .before .before .before .loop-test .taken in
     let told = c .before .before .before .register-at .ensures in
-    sym (l .inv .1 ∙ sizes-stop (l .address) _ (l .i) _ _ more told (c .before .is-fit .ensures) (not-true _ (c .if1 .taken)))
+    sym (l .inv .1 ∙ sizes-no (l .address) _ (l .i) _ _ more told (c .before .is-fit .ensures) (not-true _ (c .if1 .taken)))
 
 next-address-requires : tie.Need-next-address-requires Inv-loop μ-loop
 next-address-requires c κs = search needs
@@ -50,10 +50,10 @@ loop-again c =
     let more = c .before .before .before .before .before .loop-test .taken in
     let told = c .before .before .before .before .register-at .ensures in
     let fits = c .before .before .is-fit .ensures in
-    (search needs, l .inv .1 ∙ sizes-go (l .address) _ (l .i) _ _ more told fits (not-false _ (c .before .if1 .left)) _ (c .next-address .ensures))
+    (search needs, l .inv .1 ∙ sizes-yes (l .address) _ (l .i) _ _ more told fits (not-false _ (c .before .if1 .left)) _ (c .next-address .ensures))
 
 returns-2 : tie.Need-returns-2 Inv-loop μ-loop
-returns-2 c = let l = c .before .loop in sym (l .inv .1 ∙ sizes-none (l .address) _ (l .i) (c .loop-test .left))
+returns-2 c = let l = c .before .loop in sym (l .inv .1 ∙ sizes-end (l .address) _ (l .i) (c .loop-test .left))
 
 pub are-fit-spec : {M : Type 1} → statement M
 are-fit-spec =

@@ -7,7 +7,7 @@ use mathlib.Core.Bool.{not}
 use lib.ListN.{length, drop}
 use borrow.Author.Needs.{needs}
 use Rattle.words.specs.Words.{all}
-use Rattle.words.proofs.Laws.{all-end, all-stop-at, all-go-at}
+use Rattle.words.proofs.Laws.{all-end, all-at-no, all-at-yes}
 use Rattle.judge.specs.Lines.{high}
 use Rattle.judge.proofs.Laws.{high-yes, high-no}
 use Rattle.judge.proofs.are_narrow.Statement.{statement}
@@ -33,7 +33,7 @@ returns c =
     let l = c .before .before .before .loop in
     let s = c .before .before .before .before .args .samples .now in
     let wide = high-yes _ (c .if1 .taken) (omega (arith, c .before .shared-slice-known .given (l .i))) in
-    sym (l .inv .1 ∙ all-stop-at (λ x. not (high x)) s (l .i) 0 (c .before .before .loop-test .taken) wide)
+    sym (l .inv .1 ∙ all-at-no (λ x. not (high x)) s (l .i) 0 (c .before .before .loop-test .taken) wide)
 
 add-i : tie.Need-add-i Inv-loop μ-loop
 add-i c = search needs
@@ -45,7 +45,7 @@ loop-again : tie.Need-loop-again Inv-loop μ-loop
 loop-again c =
     let l = c .before .before .before .loop in
     let s = c .before .before .before .before .args .samples .now in
-    (search needs, l .inv .1 ∙ all-go-at (λ x. not (high x)) s (l .i) 0 (c .before .before .loop-test .taken) (high-no _ (c .if1 .left)))
+    (search needs, l .inv .1 ∙ all-at-yes (λ x. not (high x)) s (l .i) 0 (c .before .before .loop-test .taken) (high-no _ (c .if1 .left)))
 
 returns-2 : tie.Need-returns-2 Inv-loop μ-loop
 returns-2 c =

@@ -1,13 +1,13 @@
 -- `keys::col_of` meets its contract.
 -- Assumes nothing.
 use mathlib.Core.Path.{sym}
-use Rattle.keys.proofs.Laws.{col-yes, col-none}
+use Rattle.keys.proofs.Laws.{col-yes, col-no}
 use borrow.Author.Needs.{needs}
 use Rattle.keys.proofs.col_of.Statement.{statement}
 use Rattle.keys.proofs.col_of.Tie as tie
 
 returns : tie.Need-returns
-returns c = sym (col-none _ (c .if1 .taken))
+returns c = sym (col-no _ (c .if1 .taken))
 
 cast-t4 : tie.Need-cast-t4
 cast-t4 c = search needs

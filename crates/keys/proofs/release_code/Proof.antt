@@ -3,7 +3,7 @@
 use native.Mathlib.Omega.{arith}
 use mathlib.Core.Path.{sym, _∙_}
 use Rattle.keys.specs.Keys.{pressCode, releaseCode}
-use Rattle.keys.proofs.Laws.{press-none, press-some, press-low}
+use Rattle.keys.proofs.Laws.{press-no, press-yes, press-low}
 use borrow.Author.Needs.{needs}
 use Rattle.keys.proofs.release_code.Statement.{statement}
 use Rattle.keys.proofs.release_code.Tie as tie
@@ -13,7 +13,7 @@ press-code-requires c κs = search needs
 
 returns : tie.Need-returns
 unfolding releaseCode
-returns c = rw (press-none _ _ (sym (c .before .press-code .ensures) ∙ c .if1 .taken))
+returns c = rw (press-no _ _ (sym (c .before .press-code .ensures) ∙ c .if1 .taken))
 
 add-result : tie.Need-add-result
 add-result c = omega (arith, press-low (c .before .before .args .row .0) (c .before .before .args .col .0))
@@ -21,7 +21,7 @@ add-result c = omega (arith, press-low (c .before .before .args .row .0) (c .bef
 returns-2 : tie.Need-returns-2
 unfolding releaseCode pressCode
 returns-2 c =
-    let key = press-some _ _ (λ e. c .if1 .left (c .before .press-code .ensures ∙ e)) in
+    let key = press-yes _ _ (λ e. c .if1 .left (c .before .press-code .ensures ∙ e)) in
     rw (c .before .press-code .ensures, key)
 
 pub release-code-spec : {M : Type 1} → statement M

@@ -1,13 +1,13 @@
 -- `keys::row_of` meets its contract.
 -- Assumes nothing.
 use mathlib.Core.Path.{sym}
-use Rattle.keys.proofs.Laws.{row-yes, row-none}
+use Rattle.keys.proofs.Laws.{row-yes, row-no}
 use borrow.Author.Needs.{needs}
 use Rattle.keys.proofs.row_of.Statement.{statement}
 use Rattle.keys.proofs.row_of.Tie as tie
 
 returns : tie.Need-returns
-returns c = sym (row-none _ (c .if1 .taken))
+returns c = sym (row-no _ (c .if1 .taken))
 
 cast-t4 : tie.Need-cast-t4
 cast-t4 c = search needs

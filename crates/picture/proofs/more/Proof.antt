@@ -4,7 +4,7 @@ use mathlib.Core.Path.{_≡_, refl, sym, _∙_}
 use Prim.Native.Nat.{_-_}
 use borrow.Author.Needs.{needs}
 use Rattle.picture.specs.Picture.{more}
-use Rattle.picture.proofs.Laws.{codesFrom, more-end, more-on, more-off}
+use Rattle.picture.proofs.Laws.{codesFrom, more-end, more-yes, more-no}
 use Rattle.picture.proofs.more.Statement.{statement}
 use Rattle.picture.proofs.more.Tie as tie
 
@@ -23,7 +23,7 @@ shared-slice-read-if1 c = search needs
 returns : tie.Need-returns Inv-loop μ-loop
 returns c =
     let l = c .before .before .before .loop in
-    (sym (l .inv ∙ more-on (c .before .before .before .before .args .table .now) (search needs) (l .k) (c .before .before .loop-test .taken) (c .if1 .taken)), search needs)
+    (sym (l .inv ∙ more-yes (c .before .before .before .before .args .table .now) (search needs) (l .k) (c .before .before .loop-test .taken) (c .if1 .taken)), search needs)
 
 add-k : tie.Need-add-k Inv-loop μ-loop
 add-k c = search needs
@@ -34,7 +34,7 @@ loop-less c = search needs
 loop-again : tie.Need-loop-again Inv-loop μ-loop
 loop-again c =
     let l = c .before .before .before .loop in
-    l .inv ∙ more-off (c .before .before .before .before .args .table .now) (search needs) (l .k) (c .before .before .loop-test .taken) (c .if1 .left)
+    l .inv ∙ more-no (c .before .before .before .before .args .table .now) (search needs) (l .k) (c .before .before .loop-test .taken) (c .if1 .left)
 
 returns-2 : tie.Need-returns-2 Inv-loop μ-loop
 returns-2 c =

@@ -7,7 +7,7 @@ use native.Mathlib.Omega.{arith}
 use borrow.Author.Needs.{needs}
 use Rattle.keys.proofs.Laws.{code-low}
 use Rattle.picture.specs.Picture.{nth, picture}
-use Rattle.picture.proofs.Laws.{codesFrom, nth-end, nth-here, nth-on, nth-off}
+use Rattle.picture.proofs.Laws.{codesFrom, nth-end, nth-here, nth-yes, nth-no}
 use Rattle.picture.proofs.shown.Statement.{statement}
 use Rattle.picture.proofs.shown.Tie as tie
 
@@ -55,8 +55,8 @@ loop-again c =
     let table = c .before .before .before .before .before .args .table .now in
     let shows : ℕ → ℕ = λ n. nth n (codesFrom (l .k + 1) table) in
     l .inv ∙ ⊎-elim
-    (λ w. nth-on table (search needs) (l .k) (c .before .before .loop-test .taken) (w .0 .taken) (l .rest) (w .1 .left) ∙ ap shows (sym (w .2)))
-    (λ w. nth-off table (search needs) (l .k) (c .before .before .loop-test .taken) (w .0 .left) (l .rest) ∙ ap shows (sym (w .1))) (c .if1 .came)
+    (λ w. nth-yes table (search needs) (l .k) (c .before .before .loop-test .taken) (w .0 .taken) (l .rest) (w .1 .left) ∙ ap shows (sym (w .2)))
+    (λ w. nth-no table (search needs) (l .k) (c .before .before .loop-test .taken) (w .0 .left) (l .rest) ∙ ap shows (sym (w .1))) (c .if1 .came)
 
 returns-2 : tie.Need-returns-2 Inv-loop μ-loop
 returns-2 c =

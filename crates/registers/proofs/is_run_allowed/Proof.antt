@@ -7,7 +7,7 @@ use borrow.Author.Needs.{needs}
 use borrow.Author.Tests.{not-true, not-false}
 use Rattle.registers.specs.Registers.{allowed}
 use Rattle.registers.specs.Runs.{runAllowed}
-use Rattle.registers.proofs.Laws.{run-none, run-stops, run-goes}
+use Rattle.registers.proofs.Laws.{run-end, run-no, run-yes}
 use Rattle.registers.proofs.is_run_allowed.Statement.{statement}
 use Rattle.registers.proofs.is_run_allowed.Tie as tie
 
@@ -31,7 +31,7 @@ returns c =
     let way = c .before .before .before .before .before .args .access in
     let l = c .before .before .before .before .loop in
     let e = sym (ap (allowed way) (c .before .before .register-at .ensures)) ∙ sym (c .before .is-allowed .ensures) ∙ not-true _ (c .if1 .taken) in
-    sym (l .inv ∙ run-stops way (l .address) (l .rest) (c .before .before .before .loop-test .taken) e)
+    sym (l .inv ∙ run-no way (l .address) (l .rest) (c .before .before .before .loop-test .taken) e)
 
 next-address-requires : tie.Need-next-address-requires Inv-loop μ-loop
 next-address-requires c κs = search needs
@@ -47,7 +47,7 @@ loop-again c =
     let way = c .before .before .before .before .before .before .args .access in
     let l = c .before .before .before .before .before .loop in
     let e = sym (ap (allowed way) (c .before .before .before .register-at .ensures)) ∙ sym (c .before .before .is-allowed .ensures) ∙ not-false _ (c .before .if1 .left) in
-    l .inv ∙ run-goes way (l .address) (l .rest) (c .before .before .before .before .loop-test .taken) e
+    l .inv ∙ run-yes way (l .address) (l .rest) (c .before .before .before .before .loop-test .taken) e
     ∙ ap (λ (a : ℕ). runAllowed way a (l .rest - 1)) (sym (c .next-address .ensures))
 
 returns-2 : tie.Need-returns-2 Inv-loop μ-loop
@@ -55,7 +55,7 @@ returns-2 c =
     let way = c .before .before .args .access in
     let l = c .before .loop in
     let none : l .rest ≡ 0 = omega arith in
-    sym (l .inv ∙ ap (runAllowed way (l .address)) none ∙ run-none way (l .address))
+    sym (l .inv ∙ ap (runAllowed way (l .address)) none ∙ run-end way (l .address))
 
 pub is-run-allowed-spec : {M : Type 1} → statement M
 is-run-allowed-spec =

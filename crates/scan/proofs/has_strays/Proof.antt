@@ -7,7 +7,7 @@ use mathlib.Core.Bool.{true}
 use mathlib.Core.List.{List}
 use Rattle.words.specs.Words.{allBelow}
 use Rattle.scan.proofs.Laws.{fits}
-use Rattle.scan.proofs.Walk.{fits-row, fits-fails, fits-all}
+use Rattle.scan.proofs.Walk.{fits-yes, fits-no, fits-all}
 use borrow.Author.Needs.{needs}
 use Rattle.scan.proofs.has_strays.Statement.{statement}
 use Rattle.scan.proofs.has_strays.Tie as tie
@@ -26,7 +26,7 @@ row-has-strays-requires : tie.Need-row-has-strays-requires Inv-loop μ-loop
 row-has-strays-requires c κs = search needs
 
 returns : tie.Need-returns Inv-loop μ-loop
-returns c = λ samples. fits-fails _ samples _ (c .before .before .before .before .before .loop-test .taken) (c .before .before .before .before .before .before .loop .inv .1 samples) (c .before .row-has-strays .ensures) (c .if1 .taken)
+returns c = λ samples. fits-no _ samples _ (c .before .before .before .before .before .loop-test .taken) (c .before .before .before .before .before .before .loop .inv .1 samples) (c .before .row-has-strays .ensures) (c .if1 .taken)
 
 add-row : tie.Need-add-row Inv-loop μ-loop
 add-row c = search needs
@@ -35,7 +35,7 @@ loop-less : tie.Need-loop-less Inv-loop μ-loop
 loop-less c = search needs
 
 loop-again : tie.Need-loop-again Inv-loop μ-loop
-loop-again c = (search needs, λ samples. fits-row _ samples _ (c .before .before .before .before .before .loop-test .taken) (c .before .before .before .before .before .before .loop .inv .1 samples) (c .before .row-has-strays .ensures) (c .if1 .left))
+loop-again c = (search needs, λ samples. fits-yes _ samples _ (c .before .before .before .before .before .loop-test .taken) (c .before .before .before .before .before .before .loop .inv .1 samples) (c .before .row-has-strays .ensures) (c .if1 .left))
 
 returns-2 : tie.Need-returns-2 Inv-loop μ-loop
 returns-2 c = λ samples. fits-all _ samples _ (omega arith) (c .before .loop .inv .1 samples)

@@ -1,4 +1,4 @@
--- `scan::is_stray` meets its contract: an open key doesn't change, a key in the size is no stray, and another is one where its contact changes.
+-- `scan::is_stray` meets its contract: an open key doesn't change, a key in the size is no stray, and another is one if its contact changes.
 -- Assumes nothing.
 use mathlib.Core.Path.{sym}
 use mathlib.Core.Bool.{Bool·not-not, or-true}

@@ -1,4 +1,4 @@
--- `scan::look_at` meets its contract: the step's answer goes to the key's places, and where the key changed its code goes to the queue.
+-- `scan::look_at` meets its contract: the step's answer goes to the key's places, and if the key changed its code goes to the queue.
 -- Assumes nothing.
 use native.Mathlib.Omega.{arith}
 use mathlib.Core.Path.{sym, _∙_}

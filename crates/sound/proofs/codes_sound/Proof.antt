@@ -11,7 +11,7 @@ use Rattle.keys.specs.Keys.{keyIn, keyOf}
 use Rattle.state.specs.Module.{queue}
 use Rattle.state.specs.Queue.{waiting}
 use Rattle.sound.specs.Sound.{codesSound}
-use Rattle.words.proofs.Laws.{front-stops, front-goes, front-end}
+use Rattle.words.proofs.Laws.{front-no, front-yes, front-end}
 use borrow.Author.Needs.{needs}
 use Rattle.sound.proofs.codes_sound.Statement.{statement}
 use Rattle.sound.proofs.codes_sound.Tie as tie
@@ -42,7 +42,7 @@ returns-2 : tie.Need-returns-2 Inv-loop μ-loop
 returns-2 c =
     let l = c .before .before .before .before .before .loop in
     let b = c .before .before .before .before .before .before in
-    sym (l .inv ∙ front-stops _ _ _ (l .i) 0 (c .before .before .before .if1 .left) (omega (arith, b .bytes .given .0)) (sym (c .before .is-code-in .ensures) ∙ not-true _ (c .if2 .taken)))
+    sym (l .inv ∙ front-no _ _ _ (l .i) 0 (c .before .before .before .if1 .left) (omega (arith, b .bytes .given .0)) (sym (c .before .is-code-in .ensures) ∙ not-true _ (c .if2 .taken)))
 
 add-i : tie.Need-add-i Inv-loop μ-loop
 add-i c = search needs
@@ -54,7 +54,7 @@ loop-again : tie.Need-loop-again Inv-loop μ-loop
 loop-again c =
     let l = c .before .before .before .before .before .loop in
     let b = c .before .before .before .before .before .before in
-    l .inv ∙ front-goes _ _ _ (l .i) 0 (c .before .before .before .if1 .left) (omega (arith, b .bytes .given .0)) (sym (c .before .is-code-in .ensures) ∙ not-false _ (c .if2 .left))
+    l .inv ∙ front-yes _ _ _ (l .i) 0 (c .before .before .before .if1 .left) (omega (arith, b .bytes .given .0)) (sym (c .before .is-code-in .ensures) ∙ not-false _ (c .if2 .left))
 
 returns-3 : tie.Need-returns-3 Inv-loop μ-loop
 returns-3 c =

@@ -3,7 +3,7 @@
 use mathlib.Core.Path.{sym, ap, _∙_}
 use mathlib.Core.Bool.{not}
 use borrow.Author.Tests.{le-leb, lt-leb, not-true, not-false}
-use Rattle.words.proofs.Laws.{every-stops, every-goes, every-later, every-one}
+use Rattle.words.proofs.Laws.{every-no, every-yes, every-later, every-one}
 use Rattle.state.specs.Queue.{waiting}
 use Rattle.sound.specs.Sound.{sound, codesSound, restUnused}
 use borrow.Author.Needs.{needs}
@@ -15,18 +15,18 @@ is-acceptable-requires c κs = search needs
 
 returns : tie.Need-returns
 unfolding sound
-returns c = sym (every-stops _ _ (sym (c .before .is-acceptable .ensures) ∙ not-true _ (c .if1 .taken)))
+returns c = sym (every-no _ _ (sym (c .before .is-acceptable .ensures) ∙ not-true _ (c .if1 .taken)))
 
 keys-sound-requires : tie.Need-keys-sound-requires
 keys-sound-requires c κs = search needs
 
 returns-2 : tie.Need-returns-2
 unfolding sound
-returns-2 c = sym (every-later _ _ (every-stops _ _ (sym (c .before .keys-sound .ensures) ∙ not-true _ (c .if2 .taken))))
+returns-2 c = sym (every-later _ _ (every-no _ _ (sym (c .before .keys-sound .ensures) ∙ not-true _ (c .if2 .taken))))
 
 returns-3 : tie.Need-returns-3
 unfolding sound
-returns-3 c = sym (every-later _ _ (every-later _ _ (every-stops _ _ (lt-leb _ _ (c .if3 .taken)))))
+returns-3 c = sym (every-later _ _ (every-later _ _ (every-no _ _ (lt-leb _ _ (c .if3 .taken)))))
 
 codes-sound-requires : tie.Need-codes-sound-requires
 codes-sound-requires c κs =
@@ -35,18 +35,18 @@ codes-sound-requires c κs =
 
 returns-4 : tie.Need-returns-4
 unfolding sound codesSound waiting
-returns-4 c = sym (every-later _ _ (every-later _ _ (every-later _ _ (every-stops _ _ (sym (c .before .codes-sound .ensures) ∙ not-true _ (c .if4 .taken))))))
+returns-4 c = sym (every-later _ _ (every-later _ _ (every-later _ _ (every-no _ _ (sym (c .before .codes-sound .ensures) ∙ not-true _ (c .if4 .taken))))))
 
 rest-unused-requires : tie.Need-rest-unused-requires
 rest-unused-requires c κs = search needs
 
 returns-5 : tie.Need-returns-5
 unfolding sound restUnused
-returns-5 c = sym (every-later _ _ (every-later _ _ (every-later _ _ (every-later _ _ (every-stops _ _ (sym (c .before .rest-unused .ensures) ∙ not-true _ (c .if5 .taken)))))))
+returns-5 c = sym (every-later _ _ (every-later _ _ (every-later _ _ (every-later _ _ (every-no _ _ (sym (c .before .rest-unused .ensures) ∙ not-true _ (c .if5 .taken)))))))
 
 returns-6 : tie.Need-returns-6
 unfolding sound
-returns-6 c = sym (every-later _ _ (every-later _ _ (every-later _ _ (every-later _ _ (every-later _ _ (every-stops _ _ (lt-leb _ _ (c .if6 .taken))))))))
+returns-6 c = sym (every-later _ _ (every-later _ _ (every-later _ _ (every-later _ _ (every-later _ _ (every-no _ _ (lt-leb _ _ (c .if6 .taken))))))))
 
 all-read-requires : tie.Need-all-read-requires
 all-read-requires c κs = search needs
@@ -61,12 +61,12 @@ returns-7 c =
     let keys = few .before in
     let size = keys .before .before .before .before .before in
     ap not (c .all-read .ensures)
-    ∙ sym (every-goes _ _ (sym (size .before .is-acceptable .ensures) ∙ not-false _ (size .if1 .left))
-    ∙ every-goes _ _ (sym (keys .before .keys-sound .ensures) ∙ not-false _ (keys .if2 .left))
-    ∙ every-goes _ _ (le-leb _ _ (few .if3 .left))
-    ∙ every-goes _ _ (sym (codes .before .codes-sound .ensures) ∙ not-false _ (codes .if4 .left))
-    ∙ every-goes _ _ (sym (rest .before .rest-unused .ensures) ∙ not-false _ (rest .if5 .left))
-    ∙ every-goes _ _ (le-leb _ _ (mask .if6 .left))
+    ∙ sym (every-yes _ _ (sym (size .before .is-acceptable .ensures) ∙ not-false _ (size .if1 .left))
+    ∙ every-yes _ _ (sym (keys .before .keys-sound .ensures) ∙ not-false _ (keys .if2 .left))
+    ∙ every-yes _ _ (le-leb _ _ (few .if3 .left))
+    ∙ every-yes _ _ (sym (codes .before .codes-sound .ensures) ∙ not-false _ (codes .if4 .left))
+    ∙ every-yes _ _ (sym (rest .before .rest-unused .ensures) ∙ not-false _ (rest .if5 .left))
+    ∙ every-yes _ _ (le-leb _ _ (mask .if6 .left))
     ∙ every-one _)
 
 pub is-sound-spec : {M : Type 1} → statement M

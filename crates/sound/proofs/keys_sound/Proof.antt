@@ -8,7 +8,7 @@ use lib.ListN.{getD}
 use borrow.Author.Tests.{not-true, not-false}
 use Rattle.words.specs.Words.{allBelow}
 use Rattle.sound.specs.Sound.{keySound, keysSound}
-use Rattle.sound.proofs.Laws.{rows-go, rows-stop}
+use Rattle.sound.proofs.Laws.{keys-yes, keys-no}
 use borrow.Author.Needs.{needs}
 use Rattle.sound.proofs.keys_sound.Statement.{statement}
 use Rattle.sound.proofs.keys_sound.Tie as tie
@@ -30,7 +30,7 @@ returns : tie.Need-returns Inv-loop μ-loop
 returns c =
     let at = c .before .before .before .loop in
     let a = c .before .before .before .before .args in
-    rows-stop (a .size) (a .held .now) (a .run .now) (at .row) (c .before .before .loop-test .taken) (at .inv .1) (c .before .row-sound .ensures) (not-true _ (c .if1 .taken))
+    keys-no (a .size) (a .held .now) (a .run .now) (at .row) (c .before .before .loop-test .taken) (at .inv .1) (c .before .row-sound .ensures) (not-true _ (c .if1 .taken))
 
 add-row : tie.Need-add-row Inv-loop μ-loop
 add-row c = search needs
@@ -42,7 +42,7 @@ loop-again : tie.Need-loop-again Inv-loop μ-loop
 loop-again c =
     let at = c .before .before .before .loop in
     let a = c .before .before .before .before .args in
-    (search needs, rows-go (a .size) (a .held .now) (a .run .now) (at .row) (c .before .before .loop-test .taken) (at .inv .1) (c .before .row-sound .ensures) (not-false _ (c .if1 .left)))
+    (search needs, keys-yes (a .size) (a .held .now) (a .run .now) (at .row) (c .before .before .loop-test .taken) (at .inv .1) (c .before .row-sound .ensures) (not-false _ (c .if1 .left)))
 
 returns-2 : tie.Need-returns-2 Inv-loop μ-loop
 unfolding keysSound

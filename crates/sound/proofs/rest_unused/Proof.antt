@@ -11,7 +11,7 @@ use borrow.Author.Tests.{eq-eqb, ne-eqb}
 use Rattle.words.specs.Words.{all}
 use Rattle.state.specs.Module.{queue}
 use Rattle.sound.specs.Sound.{restUnused}
-use Rattle.words.proofs.Laws.{all-stop-at, all-go-at, all-end}
+use Rattle.words.proofs.Laws.{all-at-no, all-at-yes, all-end}
 use Rattle.sound.proofs.rest_unused.Statement.{statement}
 use Rattle.sound.proofs.rest_unused.Tie as tie
 
@@ -31,7 +31,7 @@ shared-slice-read-if1 c = search needs
 returns : tie.Need-returns Inv-loop μ-loop
 returns c =
     let l = c .before .before .before .loop in
-    sym (l .inv ∙ all-stop-at _ _ (l .i) 0 (omega (arith, c .before .before .before .before .bytes .given .0)) (ne-eqb _ _ (c .if1 .taken)))
+    sym (l .inv ∙ all-at-no _ _ (l .i) 0 (omega (arith, c .before .before .before .before .bytes .given .0)) (ne-eqb _ _ (c .if1 .taken)))
 
 add-i : tie.Need-add-i Inv-loop μ-loop
 add-i c = search needs
@@ -42,7 +42,7 @@ loop-less c = search needs
 loop-again : tie.Need-loop-again Inv-loop μ-loop
 loop-again c =
     let l = c .before .before .before .loop in
-    l .inv ∙ all-go-at _ _ (l .i) 0 (omega (arith, c .before .before .before .before .bytes .given .0)) (eq-eqb _ _ (c .if1 .left))
+    l .inv ∙ all-at-yes _ _ (l .i) 0 (omega (arith, c .before .before .before .before .bytes .given .0)) (eq-eqb _ _ (c .if1 .left))
 
 returns-2 : tie.Need-returns-2 Inv-loop μ-loop
 returns-2 c =

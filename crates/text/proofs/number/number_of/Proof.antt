@@ -6,7 +6,7 @@ use native.Mathlib.Omega.{arith}
 use mathlib.Core.Path.{_≡_, refl, _∙_}
 use lib.ListN.{length, drop}
 use Rattle.text.specs.Digits.{digits, told}
-use Rattle.text.proofs.Laws.{product-most, digits-end, digits-stop, digits-go, told-end, told-go, number-none, number-no-digit, number-large, number-value}
+use Rattle.text.proofs.Laws.{product-most, digits-end, digits-no, digits-yes, told-end, told-yes, number-none, number-no-digit, number-large, number-value}
 use borrow.Author.Needs.{needs}
 use Rattle.text.proofs.number.number_of.Statement.{statement}
 use Rattle.text.proofs.number.number_of.Tie as tie
@@ -35,7 +35,7 @@ digit-of-requires c κs = search needs
 returns-2 : tie.Need-returns-2 Inv-loop μ-loop
 returns-2 c =
     let l = c .before .before .before .before .loop in
-    number-no-digit _ _ _ (c .before .before .before .before .before .if1 .left) (l .inv .2 ∙ digits-stop _ _ (l .i) (c .before .before .before .loop-test .taken) _ (c .before .digit-of .ensures .0) (c .if2 .taken))
+    number-no-digit _ _ _ (c .before .before .before .before .before .if1 .left) (l .inv .2 ∙ digits-no _ _ (l .i) (c .before .before .before .loop-test .taken) _ (c .before .digit-of .ensures .0) (c .if2 .taken))
 
 mul-least : tie.Need-mul-least Inv-loop μ-loop
 mul-least c = let l = c .before .before .before .before .loop in let m = product-most (l .value) (c .before .before .before .before .before .before .before .args .base) (search needs) (search needs) in record { fits = omega (arith, m) }
@@ -59,8 +59,8 @@ loop-again c =
     let d = c .before .before .digit-of .ensures .0 in (
       search needs,
       search needs,
-      l .inv .2 ∙ digits-go _ _ (l .i) h _ d (c .before .if2 .left),
-      l .inv .3 ∙ told-go _ _ (l .value) _ (l .i) h _ d (c .before .if2 .left) _ (c .least .ensures .0),
+      l .inv .2 ∙ digits-yes _ _ (l .i) h _ d (c .before .if2 .left),
+      l .inv .3 ∙ told-yes _ _ (l .value) _ (l .i) h _ d (c .before .if2 .left) _ (c .least .ensures .0),
     )
 
 returns-3 : tie.Need-returns-3 Inv-loop μ-loop

@@ -5,7 +5,7 @@ use mathlib.Core.Path.{_∙_}
 use borrow.Author.Needs.{needs}
 use borrow.Fn.Kinds.{In}
 use borrow.Fn.PlainCycle.{Measures, is, falls, and}
-use Rattle.text.proofs.Laws.{last-none, last-one, last-more}
+use Rattle.text.proofs.Laws.{last-end, last-one, last-next}
 use Rattle.text.proofs.page.last_digits.Reads as last-digits
 use Rattle.text.proofs.page.last_digits.Kinds as last-digits-kinds
 use Rattle.text.proofs.page.+last_digits.Lts-last_digits as last-digits-lts
@@ -29,7 +29,7 @@ abbrev claims : ℕ → last-digits-lts.Claims
 claims t = (met-put.Asked, met-put.Learnt, last-digits-below t, last-digits.Post)
 
 last-digits-returns : (t : ℕ) → last-digits-lts.Need-returns (claims t) (last-digits-at t) last-digits.Post
-last-digits-returns t c = (last-none _ _ _ (c .if1 .taken), search needs)
+last-digits-returns t c = (last-end _ _ _ (c .if1 .taken), search needs)
 
 last-digits-cast-last : (t : ℕ) → last-digits-lts.Need-cast-last (claims t) (last-digits-at t) last-digits.Post
 last-digits-cast-last t c = search needs
@@ -52,7 +52,7 @@ last-digits-put-requires-2 t c κs = search needs
 last-digits-returns-3 : (t : ℕ) → last-digits-lts.Need-returns-3 (claims t) (last-digits-at t) last-digits.Post
 last-digits-returns-3 t c = (
   c .put2 .ensures .0
-      ∙ last-more _ _ _ (c .before .before .before .if1 .left) (c .before .before .if2 .left) _ (c .before .last-digits .ensures .0),
+      ∙ last-next _ _ _ (c .before .before .before .if1 .left) (c .before .before .if2 .left) _ (c .before .last-digits .ensures .0),
   search needs,
 )
 

@@ -5,7 +5,7 @@ use mathlib.Core.Path.{_≡_, refl}
 use native.Mathlib.Omega.{arith}
 use lib.ListN.{length, drop}
 use Rattle.text.specs.Line.{upTo}
-use Rattle.text.proofs.Laws.{up-to-end, up-to-stop, up-to-go}
+use Rattle.text.proofs.Laws.{up-to-end, up-to-yes, up-to-no}
 use borrow.Author.Needs.{needs}
 use Rattle.text.proofs.word.first.Statement.{statement}
 use Rattle.text.proofs.word.first.Tie as tie
@@ -29,7 +29,7 @@ returns : tie.Need-returns Inv-loop μ-loop
 returns c =
     let l = c .before .before .before .before .loop in
     let a = c .before .before .before .before .before .before .args in
-    let e = up-to-stop (a .blank) (a .line .now) (l .i) (c .before .before .before .loop-test .taken) _ (c .before .is-blank .ensures) (c .if1 .taken) in
+    let e = up-to-yes (a .blank) (a .line .now) (l .i) (c .before .before .before .loop-test .taken) _ (c .before .is-blank .ensures) (c .if1 .taken) in
     (omega (arith, e, l .inv .2), search needs, search needs)
 
 add-i : tie.Need-add-i Inv-loop μ-loop
@@ -42,7 +42,7 @@ loop-again : tie.Need-loop-again Inv-loop μ-loop
 loop-again c =
     let l = c .before .before .before .before .loop in
     let a = c .before .before .before .before .before .before .args in
-    let e = up-to-go (a .blank) (a .line .now) (l .i) (c .before .before .before .loop-test .taken) _ (c .before .is-blank .ensures) (c .if1 .left) in
+    let e = up-to-no (a .blank) (a .line .now) (l .i) (c .before .before .before .loop-test .taken) _ (c .before .is-blank .ensures) (c .if1 .left) in
     (search needs, search needs, omega (arith, e, l .inv .2))
 
 returns-2 : tie.Need-returns-2 Inv-loop μ-loop

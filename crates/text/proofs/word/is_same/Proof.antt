@@ -4,7 +4,7 @@ use Prim.Native.Nat.{_≤_, _-_}
 use mathlib.Core.Path.{_≡_, refl, sym, _∙_}
 use lib.ListN.{length, drop}
 use Rattle.text.specs.Line.{same}
-use Rattle.text.proofs.Laws.{same-apart, same-end, same-stop, same-go}
+use Rattle.text.proofs.Laws.{same-apart, same-end, same-no, same-yes}
 use borrow.Author.Needs.{needs}
 use Rattle.text.proofs.word.is_same.Statement.{statement}
 use Rattle.text.proofs.word.is_same.Tie as tie
@@ -30,7 +30,7 @@ shared-slice-read-if2-2 c = search needs
 returns-2 : tie.Need-returns-2 Inv-loop μ-loop
 returns-2 c =
     let l = c .before .before .before .before .loop in
-    sym (l .inv .1 ∙ same-stop _ _ (l .i) (c .before .before .before .loop-test .taken) (search needs) (c .if2 .taken))
+    sym (l .inv .1 ∙ same-no _ _ (l .i) (c .before .before .before .loop-test .taken) (search needs) (c .if2 .taken))
 
 add-i : tie.Need-add-i Inv-loop μ-loop
 add-i c = search needs
@@ -41,7 +41,7 @@ loop-less c = search needs
 loop-again : tie.Need-loop-again Inv-loop μ-loop
 loop-again c =
     let l = c .before .before .before .before .loop in
-    (search needs, l .inv .1 ∙ same-go _ _ (l .i) (c .before .before .before .loop-test .taken) (search needs) (c .if2 .left))
+    (search needs, l .inv .1 ∙ same-yes _ _ (l .i) (c .before .before .before .loop-test .taken) (search needs) (c .if2 .left))
 
 returns-3 : tie.Need-returns-3 Inv-loop μ-loop
 returns-3 c = let l = c .before .loop in sym (l .inv .1 ∙ same-end _ _ (l .i) (c .loop-test .left) (search needs))
