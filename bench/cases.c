@@ -79,6 +79,16 @@ const struct measured cases[] = {
 
 const unsigned case_count = sizeof cases / sizeof cases[0];
 
+/* The first number other than 0 that a call gave while the modules were made. */
+static uint8_t declined;
+
+/* A call's number. */
+static void gave(uint8_t number)
+{
+    if (declined == PANEL_DONE)
+        declined = number;
+}
+
 /* A module after reset, with a size and a bounce, and the line at rest. */
 static struct panel sized(uint8_t size, uint8_t bounce)
 {
@@ -88,8 +98,8 @@ static struct panel sized(uint8_t size, uint8_t bounce)
     bytes[0] = bounce;
     bytes[1] = size;
     panel_reset(&panel);
-    panel_write(&panel, PANEL_KBDBOUNCE, bytes, 2);
-    panel_write(&panel, PANEL_RSTINTCLR, &one, 1);
+    gave(panel_write(&panel, PANEL_KBDBOUNCE, bytes, 2));
+    gave(panel_write(&panel, PANEL_RSTINTCLR, &one, 1));
     return panel;
 }
 
@@ -98,11 +108,11 @@ static struct panel settled(uint8_t size, const uint16_t *samples)
 {
     struct panel panel = sized(size, 3);
     uint8_t codes[15], all = 3;
-    panel_look(&panel, samples, 8);
-    panel_look(&panel, samples, 8);
-    panel_look(&panel, samples, 8);
-    panel_read(&panel, PANEL_EVTCODE, codes, sizeof codes);
-    panel_write(&panel, PANEL_KBDIC, &all, 1);
+    gave(panel_look(&panel, samples, 8));
+    gave(panel_look(&panel, samples, 8));
+    gave(panel_look(&panel, samples, 8));
+    gave(panel_read(&panel, PANEL_EVTCODE, codes, sizeof codes));
+    gave(panel_write(&panel, PANEL_KBDIC, &all, 1));
     return panel;
 }
 
@@ -125,8 +135,8 @@ static void make_modules(void)
     small = settled(0x22, small_looks[0]);
     open = sized(0x8C, 1);
     full = open;
-    panel_look(&full, burst_looks[0], 8);
-    panel_look(&full, five, 8);
+    gave(panel_look(&full, burst_looks[0], 8));
+    gave(panel_look(&full, five, 8));
     unsound = full;
     memset(unsound.seen, 1, sizeof unsound.seen);
 }
@@ -170,6 +180,10 @@ bool prepare(const struct face *const *faces, unsigned face_count)
     unsigned i, face;
     make_storm();
     make_modules();
+    if (declined != PANEL_DONE) {
+        printf("a module of the cases can't be made: a call gives %u\n", declined);
+        return false;
+    }
     for (i = 0; i < case_count; i++) {
         for (face = 0; face < face_count; face++) {
             if (turn(faces[face], &cases[i]) == cases[i].number)

@@ -7,9 +7,9 @@
 struct face {
     const char *name;
     uint8_t (*reset)(struct panel *panel);
-    uint8_t (*look)(struct panel *panel, const uint16_t *samples, size_t count);
-    uint8_t (*write)(struct panel *panel, uint8_t first, const uint8_t *bytes, size_t count);
-    uint8_t (*read)(struct panel *panel, uint8_t first, uint8_t *buffer, size_t count);
+    uint8_t (*look)(struct panel *panel, const uint16_t *samples, uint64_t count);
+    uint8_t (*write)(struct panel *panel, uint8_t first, const uint8_t *bytes, uint64_t count);
+    uint8_t (*read)(struct panel *panel, uint8_t first, uint8_t *buffer, uint64_t count);
     uint8_t (*held)(const struct panel *panel, struct panel_row row, struct panel_col col, bool *yes);
     uint8_t (*interrupt)(const struct panel *panel, bool *yes);
 };

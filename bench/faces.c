@@ -17,19 +17,19 @@ static uint8_t idle_reset(struct panel *panel)
     return PANEL_DONE;
 }
 
-static uint8_t idle_look(struct panel *panel, const uint16_t *samples, size_t count)
+static uint8_t idle_look(struct panel *panel, const uint16_t *samples, uint64_t count)
 {
     (void)panel, (void)samples, (void)count;
     return PANEL_DONE;
 }
 
-static uint8_t idle_write(struct panel *panel, uint8_t first, const uint8_t *bytes, size_t count)
+static uint8_t idle_write(struct panel *panel, uint8_t first, const uint8_t *bytes, uint64_t count)
 {
     (void)panel, (void)first, (void)bytes, (void)count;
     return PANEL_DONE;
 }
 
-static uint8_t idle_read(struct panel *panel, uint8_t first, uint8_t *buffer, size_t count)
+static uint8_t idle_read(struct panel *panel, uint8_t first, uint8_t *buffer, uint64_t count)
 {
     (void)panel, (void)first, (void)buffer, (void)count;
     return PANEL_DONE;

@@ -160,7 +160,7 @@ static bool samples_narrow(const uint16_t *samples)
 }
 
 /* One look: judged, then done row by row. */
-static uint8_t plain_look(struct panel *panel, const uint16_t *samples, size_t count)
+static uint8_t plain_look(struct panel *panel, const uint16_t *samples, uint64_t count)
 {
     unsigned row;
     bool changed = false;
@@ -219,7 +219,7 @@ static unsigned next(unsigned address)
 }
 
 /* The number of a read's address and length. */
-static uint8_t judge_read(unsigned address, size_t count)
+static uint8_t judge_read(unsigned address, uint64_t count)
 {
     if (count < 1)
         return PANEL_NO_BYTES;
@@ -233,7 +233,7 @@ static uint8_t judge_read(unsigned address, size_t count)
 }
 
 /* The number of a write's address, length and bytes. */
-static uint8_t judge_write(unsigned first, const uint8_t *bytes, size_t count)
+static uint8_t judge_write(unsigned first, const uint8_t *bytes, uint64_t count)
 {
     size_t i;
     unsigned address = first;
@@ -330,7 +330,7 @@ static uint8_t read_byte(struct panel *panel, unsigned address)
 }
 
 /* A read access: judged whole, then done byte by byte. */
-static uint8_t plain_read(struct panel *panel, uint8_t first, uint8_t *buffer, size_t count)
+static uint8_t plain_read(struct panel *panel, uint8_t first, uint8_t *buffer, uint64_t count)
 {
     size_t i;
     unsigned address = first;
@@ -378,7 +378,7 @@ static void write_byte(struct panel *panel, unsigned address, uint8_t byte)
 }
 
 /* A write access: judged whole, then done byte by byte. */
-static uint8_t plain_write(struct panel *panel, uint8_t first, const uint8_t *bytes, size_t count)
+static uint8_t plain_write(struct panel *panel, uint8_t first, const uint8_t *bytes, uint64_t count)
 {
     size_t i;
     unsigned address = first;

@@ -1,22 +1,26 @@
 /*
- * The inside of a key panel, for C99 and C++.
+ * The inside of a key panel, for C99 and C++11, the same on every target.
  *
  * A panel keeps one `struct panel`, resets it, lends it to a look every few milliseconds and to every access that comes over the bus:
  *
  *     struct panel panel;
  *     panel_reset(&panel);
- *     panel_write(&panel, PANEL_KBDSIZE, &size, 1);
- *     panel_look(&panel, samples, PANEL_ROWS);
- *     panel_read(&panel, PANEL_EVTCODE, codes, sizeof codes);
+ *     number = panel_write(&panel, PANEL_KBDSIZE, &size, 1);
+ *     number = panel_look(&panel, samples, PANEL_ROWS);
+ *     number = panel_read(&panel, PANEL_EVTCODE, codes, sizeof codes);
  *
- * Each call gives a number. PANEL_DONE: the call was done. Any other: it was declined, neither the module nor a byte of the buffer is altered, and a question's answer is no. A number is given exactly when its condition holds and none before it in the call's list does.
+ * Each call gives a number. PANEL_DONE: the call was done. Any other: it was declined, neither the module nor a byte of the buffer is altered,
+ * and a question's answer is no. A number is given exactly when its condition holds and none before it in the call's list does.
  *
- * Link with libpanel.a, which `rt staticlib panel` writes. It needs memcpy and the like, and nothing else.
+ * Link with libpanel.a, which `rt staticlib panel` writes for x86-64. It needs memcpy and the like, and nothing else.
  *
  * What the six calls do is proved, for every module, every argument and every length. Outside the proof, and so for the caller to see to:
- *   - every bool of a `struct panel`, and the bool that takes an answer, is the byte 0 or 1 before the call (panel_reset alone asks nothing of the memory that it fills);
+ *   - every bool of a `struct panel`, and the bool that takes an answer, is the byte 0 or 1 before the call. Soundness doesn't see another
+ *     byte there, so ask panel_bools_ok of a module that comes from storage; panel_reset alone asks nothing of the memory that it fills;
  *   - a pointer is valid for its length, and not null, also when the length is 0 and when the call is declined;
- *   - module, samples, bytes, buffer and answer don't overlap, and nobody else touches them during a call;
+ *   - module, samples, bytes, buffer and answer don't overlap;
+ *   - one call at a time on one module, interrupt routines included, and the questions too: a call in the midst of another sees half of it.
+ *     Calls on two modules never meet;
  *   - the C compiler, and the inline functions of this file.
  */
 #ifndef PANEL_H
@@ -25,6 +29,20 @@
 #include <stdbool.h>
 #include <stddef.h>
 #include <stdint.h>
+
+/*
+ * This header's version, 10000 x first + 100 x second + third. The first rises when a caller must be changed or compiled again: another layout,
+ * another meaning of a call. The second rises when something is added, the third when only words change. Header and archive are of one version.
+ */
+#define PANEL_VERSION 10000
+#define PANEL_VERSION_TEXT "1.0.0"
+
+/* On a call that gives a number: the compiler warns if nobody looks at it. */
+#if defined(__GNUC__)
+#define PANEL_NUMBER __attribute__((warn_unused_result))
+#else
+#define PANEL_NUMBER
+#endif
 
 #ifdef __cplusplus
 extern "C" {
@@ -50,14 +68,14 @@ enum panel_register {
     PANEL_KBDSIZE = 0x03,   /* R/W: 16 x rows (2 to 8) + columns (2 to 12); a write restarts the keypad */
     PANEL_KBDRIS = 0x06,    /* R: the flags below */
     PANEL_KBDMIS = 0x07,    /* R: KBDRIS with the bits set in KBDMSK made 0 */
-    PANEL_KBDIC = 0x08,     /* W: bit 0 clears RSINT and RKLINT, bit 1 clears RELINT */
-    PANEL_KBDMSK = 0x09,    /* R/W: a 1 masks the flag; low four bits */
-    PANEL_KBDCODE0 = 0x0B,  /* R: the picture, four registers: the first four held keys */
-    PANEL_KBDCODE1 = 0x0C,
+    PANEL_KBDIC = 0x08,     /* W: bit 0 clears RSINT and RKLINT, bit 1 clears RELINT; other bits are ignored */
+    PANEL_KBDMSK = 0x09,    /* R/W: a 1 masks the flag; the high four bits are ignored, and read 0 */
+    PANEL_KBDCODE0 = 0x0B,  /* R: the picture, four registers: the first four held keys' press codes, 0x7F for none; */
+    PANEL_KBDCODE1 = 0x0C,  /*    PANEL_MORE is added to a code after which more keys are held */
     PANEL_KBDCODE2 = 0x0D,
     PANEL_KBDCODE3 = 0x0E,
     PANEL_EVTCODE = 0x10,   /* R: the oldest waiting code, which is taken out; the address stays here in a longer read */
-    PANEL_RSTINTCLR = 0x84  /* W: bit 0 clears PORIRQ */
+    PANEL_RSTINTCLR = 0x84  /* W: bit 0 clears PORIRQ; other bits are ignored */
 };
 
 /* The bits of KBDRIS, KBDMIS and KBDMSK. */
@@ -70,8 +88,9 @@ enum panel_flag {
 
 /* Codes: a key's press code is 16 x row + column, its release code has PANEL_RELEASED added. */
 enum panel_code {
-    PANEL_NO_CODE = 0x7F, /* no key */
-    PANEL_RELEASED = 0x80
+    PANEL_NO_CODE = 0x7F,  /* no key */
+    PANEL_RELEASED = 0x80, /* in a byte of EVTCODE */
+    PANEL_MORE = 0x80      /* in a byte of the picture */
 };
 
 /* How many there are. */
@@ -85,7 +104,7 @@ enum panel_count {
 
 /*
  * The module: 235 bytes, alignment 1, no padding. Key k is 13 x row + column.
- * It is sound when each field is as said here; a call declines any other with PANEL_UNSOUND.
+ * It is sound when each field is as said here; a call declines any other with PANEL_UNSOUND, one of zeros too: begin with panel_reset.
  */
 struct panel {
     bool held[104];    /* is the key held? Not if it is out of the size */
@@ -115,42 +134,62 @@ struct panel_col {
  * One look: a sample for each row, bit c set when column c is closed, bit 12 for the special function key.
  * Numbers: PANEL_UNSOUND, PANEL_NOT_EIGHT, PANEL_HIGH_BITS, PANEL_OUT_OF_SIZE, else PANEL_DONE.
  */
-uint8_t panel_look(struct panel *panel, const uint16_t *samples, size_t count);
+PANEL_NUMBER uint8_t panel_look(struct panel *panel, const uint16_t *samples, uint64_t count);
 
 /*
  * A write access: bytes to the registers from `first` on, each taking effect in order.
  * Numbers: PANEL_UNSOUND, PANEL_NO_BYTES, PANEL_TOO_MANY, PANEL_NOT_ALLOWED, PANEL_BAD_SIZE, else PANEL_DONE.
  */
-uint8_t panel_write(struct panel *panel, uint8_t first, const uint8_t *bytes, size_t count);
+PANEL_NUMBER uint8_t panel_write(struct panel *panel, uint8_t first, const uint8_t *bytes, uint64_t count);
 
 /*
  * A read access: the whole buffer is filled from the registers from `first` on.
  * Numbers: PANEL_UNSOUND, PANEL_NO_BYTES, PANEL_TOO_MANY, PANEL_NOT_ALLOWED, else PANEL_DONE.
  */
-uint8_t panel_read(struct panel *panel, uint8_t first, uint8_t *buffer, size_t count);
+PANEL_NUMBER uint8_t panel_read(struct panel *panel, uint8_t first, uint8_t *buffer, uint64_t count);
 
 /*
  * Is this key held? The answer goes to `yes`; no, if the call is declined or the key is out of the size. The module is only looked at.
  * Numbers: PANEL_UNSOUND, PANEL_NO_KEY, else PANEL_DONE.
  */
-uint8_t panel_held(const struct panel *panel, struct panel_row row, struct panel_col col, bool *yes);
+PANEL_NUMBER uint8_t panel_held(const struct panel *panel, struct panel_row row, struct panel_col col, bool *yes);
 
 /*
  * Is the interrupt line asserted? The answer goes to `yes`; no, if the call is declined. The module is only looked at.
  * Numbers: PANEL_UNSOUND, else PANEL_DONE.
  */
-uint8_t panel_interrupt(const struct panel *panel, bool *yes);
+PANEL_NUMBER uint8_t panel_interrupt(const struct panel *panel, bool *yes);
 
-/* What reset hands back, by value: the module after it, and the number. panel_reset below is the same over a pointer. */
+/* What reset makes: the module after it, and the number. It fills the struct and hands the pointer back; panel_reset below is the call to use. */
 struct panel_done {
     struct panel after;
     uint8_t number;
 };
 
-struct panel_done panel_reset_value(void);
+struct panel_done *panel_reset_value(struct panel_done *made);
 
-/* Refused where the compiler lays the structs out otherwise. */
-typedef char panel_layout_is_right[sizeof(struct panel) == 235 && sizeof(struct panel_done) == 236 && sizeof(struct panel_row) == 1 && sizeof(struct panel_col) == 1 ? 1 : -1];
+/* Refused, by a name that tells what is wrong, if the compiler lays the structs out otherwise than the archive. */
+#define PANEL_SEEN(name, fact) typedef char name[(fact) ? 1 : -1]
+#define PANEL_AT(field, place) PANEL_SEEN(panel_##field##_is_at_##place, offsetof(struct panel, field) == (place))
+PANEL_SEEN(panel_is_235_bytes, sizeof(struct panel) == 235);
+PANEL_AT(held, 0);
+PANEL_AT(run, 104);
+PANEL_AT(queue, 208);
+PANEL_AT(count, 223);
+PANEL_AT(bounce, 224);
+PANEL_AT(size, 225);
+PANEL_AT(mask, 226);
+PANEL_AT(rsint, 227);
+PANEL_AT(rklint, 228);
+PANEL_AT(relint, 229);
+PANEL_AT(porirq, 230);
+PANEL_AT(seen, 231);
+PANEL_SEEN(panel_done_after_is_at_0, offsetof(struct panel_done, after) == 0);
+PANEL_SEEN(panel_done_number_is_at_235, offsetof(struct panel_done, number) == 235);
+PANEL_SEEN(panel_done_is_236_bytes, sizeof(struct panel_done) == 236);
+PANEL_SEEN(panel_row_and_col_are_a_byte_each, sizeof(struct panel_row) == 1 && sizeof(struct panel_col) == 1);
+#undef PANEL_AT
+#undef PANEL_SEEN
 
 static inline struct panel_row panel_row(uint8_t row)
 {
@@ -167,9 +206,22 @@ static inline struct panel_col panel_col(uint8_t col)
 /* Reset: the module after it, whatever the memory held before. Number: PANEL_DONE, always. */
 static inline uint8_t panel_reset(struct panel *panel)
 {
-    struct panel_done done = panel_reset_value();
+    struct panel_done done;
+    panel_reset_value(&done);
     *panel = done.after;
     return done.number;
+}
+
+/* Are the 112 bool bytes of a restored module 0 or 1? They are read as bytes; what else makes it unsound, a call tells. */
+static inline bool panel_bools_ok(const struct panel *panel)
+{
+    const unsigned char *bytes = (const unsigned char *)panel;
+    unsigned i, all = 0;
+    for (i = 0; i < sizeof *panel; i++) {
+        if (i < offsetof(struct panel, run) || i >= offsetof(struct panel, rsint))
+            all |= bytes[i];
+    }
+    return all <= 1;
 }
 
 #ifdef __cplusplus

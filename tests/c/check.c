@@ -75,6 +75,8 @@ int main(void)
     accesses();
     declined();
     states();
+    bools();
+    routine();
     printf("checks: %u made, %u failed\n", checked, failed);
     return failed ? 1 : 0;
 }

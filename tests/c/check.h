@@ -44,5 +44,7 @@ void sessions(void);
 void accesses(void);
 void declined(void);
 void states(void);
+void bools(void);
+void routine(void);
 
 #endif

@@ -2,7 +2,8 @@
 #include "check.h"
 
 /* Where the archive keeps each field; written out here, so that a slip in the header is seen. */
-enum place { HELD_AT = 0, RUN_AT = 104, QUEUE_AT = 208, COUNT_AT = 223, BOUNCE_AT = 224, SIZE_AT = 225, MASK_AT = 226, RSINT_AT = 227, RKLINT_AT = 228, RELINT_AT = 229, PORIRQ_AT = 230, SEEN_AT = 231, END = 235 };
+enum place { HELD_AT = 0, RUN_AT = 104, QUEUE_AT = 208, COUNT_AT = 223, BOUNCE_AT = 224, SIZE_AT = 225, MASK_AT = 226, RSINT_AT = 227,
+             RKLINT_AT = 228, RELINT_AT = 229, PORIRQ_AT = 230, SEEN_AT = 231, END = 235 };
 
 struct after_a_byte {
     char byte;
@@ -27,6 +28,20 @@ static void told_by_the_compiler(void)
     SAME(offsetof(struct panel, porirq), PORIRQ_AT);
     SAME(offsetof(struct panel, seen), SEEN_AT);
     SAME(offsetof(struct panel_done, number), END);
+    group_ends();
+}
+
+/* The version's text says the number: three numbers with dots between, each below 100. */
+static void version_told(void)
+{
+    group("layout", "the version as text and as a number");
+    unsigned version = 0, part = 0;
+    const char *at;
+    for (at = PANEL_VERSION_TEXT; *at != 0; at++) {
+        part = *at == '.' ? 0 : 10 * part + (unsigned)(*at - '0');
+        version = *at == '.' ? 100 * version : version / 100 * 100 + part;
+    }
+    SAME(version, PANEL_VERSION);
     group_ends();
 }
 
@@ -143,14 +158,18 @@ static void places_seen(void)
     group_ends();
 }
 
-/* Reset by value: the module that comes back, and the number. */
+/* Reset: the struct that it fills, the number, and the pointer that comes back; the bytes around stay. */
 static void reset_seen(void)
 {
-    group("layout seen through calls", "reset by value");
-    struct panel_done done = panel_reset_value();
+    group("layout seen through calls", "reset");
+    struct panel_done done[3];
+    memset(done, 0xA5, sizeof done);
     image_after_reset();
-    SO(is_image(&done.after));
-    SAME(done.number, 0);
+    SO(panel_reset_value(done + 1) == done + 1);
+    SO(is_image(&done[1].after));
+    SAME(done[1].number, 0);
+    SAME(done[0].number, 0xA5);
+    SAME(*(const uint8_t *)&done[2], 0xA5);
     group_ends();
 }
 
@@ -178,6 +197,7 @@ static void answers_seen(void)
 void layout(void)
 {
     told_by_the_compiler();
+    version_told();
     settings_seen();
     keys_seen();
     marks_seen();

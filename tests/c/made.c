@@ -4,6 +4,7 @@
 void *memset(void *to, int byte, size_t count);
 
 const struct state unsound[] = {
+    {"zeros", {{0, sizeof(struct panel), 0}}},
     {"size 00", {TO(size, 0x00)}},
     {"size 1C", {TO(size, 0x1C)}},
     {"size 2D", {TO(size, 0x2D)}},

@@ -187,7 +187,8 @@ struct field {
 
 #define FIELD(name) {#name, offsetof(struct panel, name), sizeof(((struct panel *)0)->name)}
 
-static const struct field fields[] = {FIELD(held), FIELD(run), FIELD(queue), FIELD(count), FIELD(bounce), FIELD(size), FIELD(mask), FIELD(rsint), FIELD(rklint), FIELD(relint), FIELD(porirq), FIELD(seen)};
+static const struct field fields[] = {FIELD(held), FIELD(run), FIELD(queue), FIELD(count), FIELD(bounce), FIELD(size), FIELD(mask),
+                                     FIELD(rsint), FIELD(rklint), FIELD(relint), FIELD(porirq), FIELD(seen)};
 
 /* Says of a field where it first differs, if it does. */
 static void say_field(const struct field *field, const uint8_t *is, const uint8_t *must)

@@ -1,0 +1,23 @@
+/* A number that nobody looks at: with IGNORED defined, each of the five calls below is warned of. Reset is always done, and nobody needs to look. */
+#include "panel.h"
+
+#ifdef IGNORED
+#define LOOKED(call) call
+#else
+#define LOOKED(call) all |= call
+#endif
+
+unsigned ignored(struct panel *panel, const uint16_t *samples, uint8_t *byte, bool *yes);
+
+/* One call of each kind, one after another. */
+unsigned ignored(struct panel *panel, const uint16_t *samples, uint8_t *byte, bool *yes)
+{
+    unsigned all = 0;
+    panel_reset(panel);
+    LOOKED(panel_look(panel, samples, PANEL_ROWS));
+    LOOKED(panel_write(panel, PANEL_KBDBOUNCE, byte, 1));
+    LOOKED(panel_read(panel, PANEL_EVTCODE, byte, 1));
+    LOOKED(panel_held(panel, panel_row(0), panel_col(0), yes));
+    LOOKED(panel_interrupt(panel, yes));
+    return all;
+}
