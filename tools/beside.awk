@@ -1,0 +1,85 @@
+# A script beside its answers, which come in; ENVIRON has the script's name (SCRIPT) and the host's page (HOST). words.awk comes before it.
+# A line that asks for nothing, blank or a comment, stands as it is. An answer that begins with a number or a question mark is a line;
+# another has many, below its command, and ends with a line of one full stop. Exit status 1 if an answer is a question mark or missing.
+
+BEGIN {
+    script = ENVIRON["SCRIPT"]
+    learn_numbers(ENVIRON["HOST"])
+    answer_column = 30; words_column = 46; width = 100
+}
+
+# goes to the next line that asks for something, which is then in `asked`; behind a `quit` there is none
+function next_asked() {
+    while (!over && (getline asked < script) > 0) {
+        over = quits(asked)
+        if (asks(asked) && !over) return 1
+        print asked
+    }
+    return 0
+}
+
+# a line as it is shown: blanks for tabs, and a very long one cut
+function shown(line) {
+    sub(/\r$/, "", line)
+    gsub(/\t/, " ", line)
+    if (length(line) > 200) gsub(/ +/, " ", line)
+    return length(line) > 200 ? substr(line, 1, 60) " .." : line
+}
+
+# a text made so long by blanks; at least two follow it
+function padded(text, n) {
+    return sprintf("%-" (n > length(text) + 2 ? n : length(text) + 2) "s", text)
+}
+
+# the words of the bytes that a read gave, from its address on; \001 is a blank at which no line ends
+function read_words(address, bytes, n,    i, all, one) {
+    for (i = 2; i <= n; i++) {
+        one = ""
+        if (address == 16) one = code_words(bytes[i])
+        if (address >= 11 && address <= 14) one = picture_words(bytes[i])
+        gsub(/ /, "\001", one)
+        if (one != "") all = all (all == "" ? "" : ", ") one
+        if (address == 16 && value(bytes[i]) == 127) break
+        if (address != 16) address++
+    }
+    return all
+}
+
+# the words to the right of an answer; none if it speaks for itself
+function words_of(line, answer,    word, given, n) {
+    if (answer ~ /^[?]/) return ""
+    n = split(answer, given, " ")
+    if (given[1] != "0") return declined_words(given[1])
+    split(line, word, " ")
+    return word[1] == "read" ? read_words(value(word[2]), given, n) : ""
+}
+
+# a line, its answer, and the words to the right of it, in as many lines as they need
+function show(left, answer, words,    line, word, n, i, filled) {
+    line = padded(shown(left), answer_column) answer
+    n = split(words, word, " ")
+    if (n && length(line) > words_column - 2) { print line; line = "" }
+    for (i = 1; i <= n; i++) {
+        if (filled && length(line) + 1 + length(word[i]) > width) { restored(line); line = ""; filled = 0 }
+        line = filled ? line " " word[i] : sprintf("%-" words_column "s", line) word[i]
+        filled = 1
+    }
+    restored(line)
+}
+
+function restored(line) { gsub(/\001/, " ", line); print line }
+
+# the further lines of an answer that has many
+within { print "    " $0; within = $0 != "."; next }
+
+!next_asked() { show("", $0, ""); missing = missing "an answer without a line\n"; next }
+
+/^[0-9?]/ { show(asked, $0, words_of(asked, $0)); if (/^[?]/) bad = 1; next }
+
+{ print shown(asked); print "    " $0; within = $0 != "." }
+
+END {
+    while (next_asked()) { show(asked, "(no answer)", ""); bad = 1 }
+    if (missing != "") { printf "%s", missing; bad = 1 }
+    exit bad
+}

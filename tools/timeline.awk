@@ -1,0 +1,151 @@
+# A session drawn: looks across, keys down. The console's answers to shows.awk's script come in; ENVIRON has the script's name (SCRIPT).
+# words.awk comes before it.
+# A column, three wide, is a look, a reset or a write of KBDSIZE; the looks of a `press`, `release` or `wait` are one column, with the number
+# of the last, since a contact that stays as it is makes its key change once at most. A declined look takes a column too, marked x, but no
+# number: nothing has happened to the panel.
+# Every key that is ever held has a row: its code in the look in which it was believed, a bar while it is held, its code in the look
+# in which it was let go.
+# Of what `show` draws, the lines of rows and the codes that wait are read: # and - are signs of a held key. A change whose code
+# doesn't wait after its look was dropped.
+# Each line of a block is a label and a cell for each column, so that further lines can stand below. Exit status 1 if a line was answered by a question mark.
+
+BEGIN { script = ENVIRON["SCRIPT"]; label = "%-10s"; columns = 30; expected = "answer"; bounce = 3 }
+
+# the line of the script that is answered now; behind a `quit` there is none
+function next_asked() {
+    while ((getline asked < script) > 0 && !quits(asked)) {
+        at++
+        if (asks(asked)) { sub(/\r$/, "", asked); return 1 }
+    }
+    return 0
+}
+
+# the held keys of a row that is drawn: a sign for each column, then that of the special-function key
+function read_row(    col) {
+    for (col = 0; col <= NF - 2; col++) if ($(col + 2) ~ /^[#-]$/) now[13 * $1 + (col == NF - 2 ? 12 : col)] = 1
+}
+
+# the codes that wait after the call
+function read_waiting(    i) {
+    waits = NF - 1
+    for (i = 1; i <= waits; i++) code_at[i] = $(i + 1)
+}
+
+# how many looks a command asks for; 0 if it is no command of looks
+function looks_of(word) {
+    if (word[1] == "look") return 1
+    if (word[1] == "press" || word[1] == "release") return bounce > 0 ? bounce : 1
+    return word[1] == "wait" ? word[2] + 0 : 0
+}
+
+# the press code of a key
+function code_of(key) { return sprintf("%02X", 16 * int(key / 13) + key % 13) }
+function release_of(key) { return sprintf("%02X", 128 + 16 * int(key / 13) + key % 13) }
+
+# the code of a change as it is drawn: stars if it was dropped
+function drawn(code) {
+    if (code in came) return code
+    dropped[width]++
+    return "**"
+}
+
+# looks that were done: what changed, and what was dropped
+function looks_done(made,    i, key) {
+    looks += made
+    number[width] = looks < 100 ? looks : sprintf("%02d", looks % 100)
+    look_at[width] = looks
+    split("", came)
+    for (i = waited + 1; i <= waits; i++) came[code_at[i]] = 1
+    for (key = 0; key < 104; key++) {
+        if (key in now && !(key in held)) cell[key, width] = drawn(code_of(key)) "="
+        else if (key in held && !(key in now)) cell[key, width] = drawn(release_of(key))
+        else if (key in held) cell[key, width] = "==="
+    }
+}
+
+# a look that was declined: the bars go on
+function look_declined(    key) {
+    number[width] = "x"
+    for (key in held) cell[key, width] = "==="
+}
+
+# a reset or a write of KBDSIZE: every key is open, and the codes that waited are gone
+function restarted(mark,    key) {
+    width++
+    host[width] = mark (waited > waits ? waited - waits : "")
+    for (key in held) cell[key, width] = "|"
+}
+
+# the call is over: it is drawn, and the panel is as it was shown
+function call_done(    word, n, made, first, key) {
+    n = split(asked, word, " ")
+    first = value(word[2])
+    made = looks_of(word)
+    if (made > 0 && answer ~ /^[0-9]/) {
+        width++
+        if (answer == "0") looks_done(made); else look_declined()
+    }
+    if (word[1] == "reset" && answer == "0") restarted("R")
+    if (word[1] == "write" && answer == "0" && first <= 3 && first + n - 2 > 3) restarted("S")
+    if (word[1] == "read" && waits < waited) fetched[width] += waited - waits
+    split("", held)
+    for (key in now) held[key] = ever[key] = 1
+    waited = waits
+}
+
+expected == "answer" {
+    if (!next_asked()) { print "an answer without a line: " $0; bad = 1; exit }
+    answer = $0
+    expected = /^[0-9?]/ || $0 == "." ? "show" : "rest"
+    if (/^[?]/) { print "panel: line " at " was answered by " $0 > "/dev/stderr"; bad = 1 }
+    split("", now)
+    next
+}
+expected == "rest" { if ($0 == ".") expected = "show"; next }
+/^ [0-7]   / { read_row() }
+/^waiting:/ { read_waiting() }
+/^KBDBOUNCE / { bounce = value(substr($2, 1, 2)) }
+$0 == "." { call_done(); expected = "answer" }
+
+# a line of the drawing, without blanks at its end
+function line_out(line) { sub(/ +$/, "", line); print line }
+
+# a line of a block: a label, and a mark for each column
+function marks_out(name, marks, from, to,    line, i) {
+    line = sprintf(label, name)
+    for (i = from; i <= to; i++) line = line sprintf("%-3s", sprintf("%2s", i in marks ? marks[i] : ""))
+    line_out(line)
+}
+
+# the row of a key
+function key_out(key, from, to,    line, i) {
+    line = sprintf(label, sprintf("%-6s%s", int(key / 13) "." key % 13, code_of(key)))
+    for (i = from; i <= to; i++) line = line sprintf("%-3s", (key, i) in cell ? cell[key, i] : "")
+    line_out(line)
+}
+
+# the head of a block: which looks it has
+function head_out(from, to,    i, first, last) {
+    for (i = from; i <= to; i++) if (i in look_at) { if (!first) first = look_at[i]; last = look_at[i] }
+    print (first ? "looks " first " to " last : "no looks")
+}
+
+# so many columns, from one on
+function block_out(from, to,    i, key) {
+    if (width > columns) head_out(from, to)
+    marks_out("look", number, from, to)
+    for (key = 0; key < 104; key++) if (key in ever) key_out(key, from, to)
+    marks_out("dropped", dropped, from, to)
+    for (i = from; i <= to; i++) if (i in fetched) host[i] = host[i] fetched[i]
+    marks_out("host", host, from, to)
+    print ""
+}
+
+END {
+    if (expected != "answer" || next_asked()) { print "no answer to line " at " of the script"; bad = 1 }
+    if (!width) print "nothing to draw: no look, no reset and no write of KBDSIZE\n"
+    for (from = 1; from <= width; from += columns) block_out(from, from + columns - 1 < width ? from + columns - 1 : width)
+    print "05= pressed, === held, 85 let go, ** its code was dropped, | opened by R or S; x a declined look"
+    print "host: codes fetched after the look; R a reset, S a write of KBDSIZE, with the codes that it emptied"
+    exit bad
+}

@@ -1,0 +1,57 @@
+# What the tools share: which lines ask for something; codes, numbers and bytes in words.
+
+# does a line ask for something? A line that is too long is always answered
+function asks(line) {
+    if (length(line) > 16384) return 1
+    sub(/\r$/, "", line)
+    return line !~ /^[ \t]*(#|$)/
+}
+
+# does a line end the input?
+function quits(line) {
+    sub(/\r$/, "", line)
+    return line ~ /^[ \t]*quit[ \t]*$/
+}
+
+# the value of a word in base 16
+function value(word,    n, i) {
+    n = 0
+    word = toupper(word)
+    for (i = 1; i <= length(word); i++) n = 16 * n + index("0123456789ABCDEF", substr(word, i, 1)) - 1
+    return n
+}
+
+# the place of a key: row 0 col 5, row 3 SF
+function place(code) {
+    return "row " int(code / 16) (code % 16 == 12 ? " SF" : " col " code % 16)
+}
+
+# a byte of EVTCODE
+function code_words(byte,    n) {
+    n = value(byte)
+    if (n == 127) return "nothing waits"
+    return (n < 128 ? "press " : "release ") place(n % 128)
+}
+
+# a byte of the picture
+function picture_words(byte,    n) {
+    n = value(byte)
+    if (n == 127) return "no key"
+    return "held " place(n % 128) (n < 128 ? "" : " and more")
+}
+
+# learns the words of the numbers from the host's page: the rows `| NUMBER | WORDS |` below its heading Numbers
+function learn_numbers(page,    line, part, within) {
+    while ((getline line < page) > 0) {
+        if (line ~ /^## /) within = line == "## Numbers"
+        if (!within || line !~ /^\| [0-9]+ \| .* \|$/) continue
+        split(line, part, / *\| */)
+        number_words[part[2]] = part[3]
+    }
+    close(page)
+}
+
+# the words of a declined call's number; the host's page has the reason
+function declined_words(number) {
+    return "not allowed" (number in number_words ? ": " number_words[number] : "")
+}
