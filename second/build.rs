@@ -1,24 +1,33 @@
-//! Plants the errors of tests/planted: for each edit a copy of src/module.rs with the edit in it,
-//! and planted.rs, which lists them all. Only tests/planted.rs takes them in.
+//! Plants the errors of tests/planted: for each edit a copy of src/module.rs or src/console.rs, the
+//! file that it names, with the edit in it, and planted.rs, which lists them all. Only
+//! tests/planted.rs takes them in.
 
 use std::env::var;
 use std::fs::{read_dir, read_to_string, write};
 use std::path::Path;
 
 const MODULE: &str = "src/module.rs";
+const CONSOLE: &str = "src/console.rs";
 const EDITS: &str = "tests/planted";
 
 /// Writes the copies and their list.
 fn main() {
-    println!("cargo:rerun-if-changed={MODULE}\ncargo:rerun-if-changed={EDITS}");
+    for input in [MODULE, CONSOLE, EDITS] {
+        println!("cargo:rerun-if-changed={input}");
+    }
     let out = var("OUT_DIR").unwrap();
     let (mut modules, mut entries) = (String::new(), String::new());
     for name in names() {
         let path = Path::new(&out).join(format!("{name}.rs"));
-        write(&path, planted(&name)).unwrap();
+        let (file, text) = planted(&name);
+        write(&path, text).unwrap();
         let ident = name.replace('-', "_");
         modules += &format!("#[allow(warnings)]\n#[path = {path:?}]\nmod {ident};\n");
-        entries += &format!("    ({name:?}, || Box::new({ident}::Module::new())),\n");
+        let console = match file {
+            CONSOLE => format!("{ident}::Console::new()"),
+            _ => format!("Console::over(Box::new({ident}::Module::new()))"),
+        };
+        entries += &format!("    ({name:?}, |script| Box::new({console}.answers(script))),\n");
     }
     let list = format!("const PLANTED: &[Planted] = &[\n{entries}];\n");
     write(Path::new(&out).join("planted.rs"), modules + &list).unwrap();
@@ -34,29 +43,34 @@ fn names() -> Vec<String> {
     names
 }
 
-/// The module with an error planted, or what tells the compiler that the edit doesn't fit.
-fn planted(name: &str) -> String {
-    let file = format!("{EDITS}/{name}.edit");
-    match edited(&read_to_string(&file).unwrap(), read_to_string(MODULE).unwrap()) {
-        Ok(text) => text,
-        Err(wrong) => format!("compile_error!({:?});\n", format!("{file}: {wrong}")),
+/// The file that an error is planted in, and its text with the error, or with what tells the
+/// compiler that the edit doesn't fit.
+fn planted(name: &str) -> (&'static str, String) {
+    let path = format!("{EDITS}/{name}.edit");
+    let edit = read_to_string(&path).unwrap();
+    let named = |file: &&str| edit.lines().any(|line| line == format!("file: {file}"));
+    let file = [MODULE, CONSOLE].into_iter().find(named).unwrap_or(MODULE);
+    match edited(&edit, file) {
+        Ok(text) => (file, text),
+        Err(wrong) => (file, format!("compile_error!({:?});\n", format!("{path}: {wrong}"))),
     }
 }
 
-/// The text with the edit's pairs put in one after the other: each `old` is there exactly once.
-fn edited(edit: &str, mut text: String) -> Result<String, String> {
-    let mut old = "";
+/// The file's text with the edit's pairs put in one after the other: each `old` is there exactly
+/// once.
+fn edited(edit: &str, file: &str) -> Result<String, String> {
+    let (mut text, mut old) = (read_to_string(file).unwrap(), "");
     for line in edit.lines() {
-        if let Some(file) = line.strip_prefix("file: ") {
-            if file != MODULE {
-                return Err(format!("{file} is not {MODULE}"));
+        if let Some(named) = line.strip_prefix("file: ") {
+            if named != file {
+                return Err(format!("{named} is not {file}"));
             }
         } else if let Some(found) = line.strip_prefix("old: ") {
             old = found;
         } else if let Some(new) = line.strip_prefix("new:") {
             let times = text.matches(old).count();
             if times != 1 {
-                return Err(format!("'{old}' is in {MODULE} {times} times, and must be once"));
+                return Err(format!("'{old}' is in {file} {times} times, and must be once"));
             }
             text = text.replace(old, new.strip_prefix(' ').unwrap_or(new));
         } else if !line.starts_with('#') {

@@ -1,9 +1,10 @@
-//! The same script to another console and to the second module, and where they first differ.
+//! The same script to another console and to the second module, and where they first differ. How
+//! a console ends counts as the last of its answers.
 //!
 //! A difference is shown twice: where it came up, and at the end of a script cut down to what
 //! leads to it.
 
-use crate::console::Console;
+use crate::console::{end, Console};
 use crate::script::Line;
 use std::ffi::OsString;
 use std::io::{self, Write};
@@ -33,33 +34,24 @@ fn comparable(answer: &[u8]) -> &[u8] {
     }
 }
 
-/// The second module's answers, each with the place of the line it answers.
-fn our_answers(script: &[Line]) -> impl Iterator<Item = (usize, Line)> + '_ {
-    let mut console = Console::new();
-    let answers = script.iter().map(move |line| console.answer(line));
-    let with_places = answers.enumerate();
-    with_places.filter_map(|(place, answer)| Some((place, answer?.into_bytes())))
-}
-
-/// Where another console's answers to a script first differ from ours.
+/// Where another console's answers to a script, and its end behind them, first differ from ours.
 pub fn difference(script: &[Line], theirs: impl IntoIterator<Item = Line>) -> Option<Difference> {
-    let (mut ours, mut theirs) = (our_answers(script), theirs.into_iter());
+    let (mut ours, mut theirs) = (Console::new().answers(script), theirs.into_iter());
+    let last = script.len().saturating_sub(1);
     loop {
         let (our, their) = match (ours.next(), theirs.next()) {
             (None, None) => return None,
             both => both,
         };
-        let end = (script.len().saturating_sub(1), MISSING.to_vec());
-        let (line, our) = our.unwrap_or(end);
+        let (line, our) = our.map_or((last, MISSING.to_vec()), |(line, our)| (line, our.into()));
         let their = their.unwrap_or_else(|| MISSING.to_vec());
         if comparable(&our) != comparable(&their) {
-            return Some(Difference { line, ours: our, theirs: their });
+            return Some(Difference { line: line.min(last), ours: our, theirs: their });
         }
     }
 }
 
-/// Gives a console program the whole script and takes its whole output. An end with another
-/// status than 0 counts as one answer more.
+/// Gives a console program the whole script and takes its whole output, and how it ends.
 pub fn run_program(program: &[OsString], script: &[Line]) -> io::Result<Vec<Line>> {
     let mut child = Command::new(&program[0])
         .args(&program[1..])
@@ -82,9 +74,8 @@ pub fn run_program(program: &[OsString], script: &[Line]) -> io::Result<Vec<Line
     if answers.last().map_or(false, Line::is_empty) {
         answers.pop();
     }
-    if !output.status.success() {
-        answers.push(format!("(the program's end: {})", output.status).into_bytes());
-    }
+    let ended = output.status.code().map_or_else(|| format!("(ends by {})", output.status), end);
+    answers.push(ended.into_bytes());
     Ok(answers)
 }
 

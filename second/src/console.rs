@@ -1,22 +1,38 @@
 //! The console's language: commands in, a line each, and an answer line for each.
 //!
 //! Input is bytes of any kind, in pieces of any length. A line is answered as soon as it is
-//! complete; one line is all that is kept.
+//! complete; one line is all that is kept. Beside the module are the contacts, as fingers leave
+//! them.
 
 use crate::calls::Calls;
 use crate::module::Module;
+use crate::words::{byte, bytes, none, number, one, place, samples, shown, two, words, Wrong};
 
 /// The longest line that is held, before its newline, a CR included.
 pub const LONGEST: usize = 16_384;
 
-/// A module and the line that is being received.
+/// The most looks that one line can wait for.
+const LONGEST_WAIT: u32 = 65_535;
+
+/// A module, the contacts it looks at, and the line that is being received.
 pub struct Console {
     module: Box<dyn Calls>,
+    /// A sample for each row, with a bit set for each closed contact.
+    contacts: [u16; 8],
     line: Vec<u8>,
+    /// Whether `quit` has ended the input.
+    ended: bool,
+    /// Whether some line was answered with `?`.
+    complained: bool,
 }
 
-/// An answer, or what is wrong with the command in a few words.
-type Answer = Result<String, &'static str>;
+/// An answer, or what is wrong with the command.
+type Answer = Result<String, Wrong>;
+
+/// How the end of a program is shown behind its answers.
+pub fn end(status: i32) -> String {
+    format!("(ends with status {status})")
+}
 
 impl Console {
     /// A console that begins with the second module after reset.
@@ -24,14 +40,28 @@ impl Console {
         Console::over(Box::new(Module::new()))
     }
 
-    /// A console that begins with this module.
+    /// A console that begins with this module and with all contacts open.
     pub fn over(module: Box<dyn Calls>) -> Console {
-        Console { module, line: Vec::new() }
+        let (contacts, line) = ([0; 8], Vec::new());
+        Console { module, contacts, line, ended: false, complained: false }
+    }
+
+    /// Whether `quit` has ended the input.
+    pub fn has_ended(&self) -> bool {
+        self.ended
+    }
+
+    /// The exit status: 1 if some line was answered with `?`.
+    pub fn status(&self) -> i32 {
+        i32::from(self.complained)
     }
 
     /// Takes in a piece of input and adds the answers of all lines it completes.
     pub fn feed(&mut self, input: &[u8], output: &mut Vec<u8>) {
         for byte in input {
+            if self.ended {
+                return;
+            }
             if *byte == b'\n' {
                 self.end_line(output);
             } else if self.line.len() <= LONGEST {
@@ -57,23 +87,45 @@ impl Console {
         }
     }
 
-    /// The answer to one line, or none for a blank line or a comment.
+    /// The answers to a script, each with the place of its line, and how the console ends.
+    pub fn answers(mut self, script: &[Vec<u8>]) -> impl Iterator<Item = (usize, String)> + '_ {
+        (0..=script.len()).filter_map(move |place| {
+            let answer = match script.get(place) {
+                Some(line) => self.answer(line),
+                None => Some(end(self.status())),
+            };
+            Some((place, answer?))
+        })
+    }
+
+    /// The answer to one line, or none for a blank line, a comment, `quit` and what follows it.
     pub fn answer(&mut self, line: &[u8]) -> Option<String> {
-        if line.len() > LONGEST {
-            return Some("? line too long".to_string());
-        }
-        let line = line.strip_suffix(b"\r").unwrap_or(line);
-        let words: Vec<&[u8]> = line
-            .split(|byte| *byte == b' ' || *byte == b'\t')
-            .filter(|word| !word.is_empty())
-            .collect();
-        if words.is_empty() || words[0].starts_with(b"#") {
+        if self.ended {
             return None;
         }
-        Some(match self.command(words[0], &words[1..]) {
-            Ok(answer) => answer,
-            Err(wrong) => format!("? {wrong}"),
+        self.obey(line).unwrap_or_else(|wrong| {
+            self.complained = true;
+            Some(format!("? {wrong}"))
         })
+    }
+
+    /// Does what a line asks for.
+    fn obey(&mut self, line: &[u8]) -> Result<Option<String>, Wrong> {
+        if line.len() > LONGEST {
+            return Err("line too long".to_string());
+        }
+        match words(line).split_first() {
+            None => Ok(None),
+            Some((name, _)) if name.starts_with(b"#") => Ok(None),
+            Some((name, words)) if *name == b"quit" => none(words).map(|_| self.quit()),
+            Some((name, words)) => self.command(name, words).map(Some),
+        }
+    }
+
+    /// `quit`
+    fn quit(&mut self) -> Option<String> {
+        self.ended = true;
+        None
     }
 
     /// Does a command with its words.
@@ -81,27 +133,68 @@ impl Console {
         match name {
             b"reset" => none(words).map(|_| self.module.reset().to_string()),
             b"look" => self.look(words),
+            b"press" => self.press(words),
+            b"release" => self.release(words),
+            b"wait" => self.wait(words),
             b"write" => self.write(words),
             b"read" => self.read(words),
             b"held" => self.held(words),
             b"irq" => none(words).map(|_| question(self.module.interrupt())),
-            // These two have no counterpart here.
+            // `show` and `help` have no counterpart here.
+            b"help" if words == [b"numbers"] => Ok(".".to_string()),
             b"show" | b"help" => none(words).map(|_| ".".to_string()),
-            _ => Err("unknown command"),
+            _ => Err(format!("unknown command: {}", shown(name))),
         }
     }
 
     /// `look S0 S1 ..`
     fn look(&mut self, words: &[&[u8]]) -> Answer {
-        let samples: Result<Vec<u16>, _> = words.iter().map(|word| sample(word)).collect();
-        Ok(self.module.look(&samples?).to_string())
+        let samples = samples(words)?;
+        let number = self.module.look(&samples);
+        if number == 0 {
+            self.contacts.iter_mut().zip(samples).for_each(|(row, sample)| *row = sample);
+        }
+        Ok(number.to_string())
+    }
+
+    /// `press ROW COL`
+    fn press(&mut self, words: &[&[u8]]) -> Answer {
+        let (row, bit) = contact(words)?;
+        self.contacts[row] |= bit;
+        Ok(self.settle())
+    }
+
+    /// `release ROW COL`
+    fn release(&mut self, words: &[&[u8]]) -> Answer {
+        let (row, bit) = contact(words)?;
+        self.contacts[row] &= !bit;
+        Ok(self.settle())
+    }
+
+    /// `wait N`
+    fn wait(&mut self, words: &[&[u8]]) -> Answer {
+        let count = number(one(words)?, 10, LONGEST_WAIT)?;
+        Ok(self.looks(count))
+    }
+
+    /// Makes the looks after which the module believes a contact: KBDBOUNCE, and 0 counts as 1.
+    fn settle(&mut self) -> String {
+        let mut bounce = [0];
+        self.module.read(0x02, &mut bounce);
+        self.looks(bounce[0].max(1).into())
+    }
+
+    /// Looks that many times at the contacts as they are, up to the first look that is declined.
+    fn looks(&mut self, count: u32) -> String {
+        let mut numbers = (0..count).map(|_| self.module.look(&self.contacts));
+        numbers.find(|number| *number != 0).unwrap_or(0).to_string()
     }
 
     /// `write AA B0 B1 ..`
     fn write(&mut self, words: &[&[u8]]) -> Answer {
-        let (first, rest) = words.split_first().ok_or("address missing")?;
-        let bytes: Result<Vec<u8>, _> = rest.iter().map(|word| byte(word, 16)).collect();
-        Ok(self.module.write(byte(first, 16)?, &bytes?).to_string())
+        let (first, rest) = words.split_first().ok_or("too few words")?;
+        let (first, bytes) = (byte(first, 16)?, bytes(rest)?);
+        Ok(self.module.write(first, &bytes).to_string())
     }
 
     /// `read AA COUNT`
@@ -131,45 +224,10 @@ fn question((number, yes): (u8, bool)) -> String {
     format!("{number} {}", if yes { "yes" } else { "no" })
 }
 
-/// Sees to it that a command has no words.
-fn none(words: &[&[u8]]) -> Result<(), &'static str> {
-    if words.is_empty() {
-        Ok(())
-    } else {
-        Err("too many words")
-    }
-}
-
-/// The two words of a command that has two.
-fn two<'a>(words: &[&'a [u8]]) -> Result<(&'a [u8], &'a [u8]), &'static str> {
-    match words {
-        [one, other] => Ok((one, other)),
-        [] | [_] => Err("too few words"),
-        _ => Err("too many words"),
-    }
-}
-
-/// A 16-bit sample.
-fn sample(word: &[u8]) -> Result<u16, &'static str> {
-    Ok(number(word, 16, 0xFFFF)? as u16)
-}
-
-/// A byte, an address, a row or a column.
-fn byte(word: &[u8], radix: u32) -> Result<u8, &'static str> {
-    Ok(number(word, radix, 0xFF)? as u8)
-}
-
-/// A number by its value, however long its digits are.
-fn number(word: &[u8], radix: u32, most: u32) -> Result<u32, &'static str> {
-    let mut value = 0;
-    for byte in word {
-        let digit = char::from(*byte).to_digit(radix).ok_or("not a digit")?;
-        // Once above the most it stays above, and never wraps.
-        value = (value * radix + digit).min(most + 1);
-    }
-    if value > most {
-        Err("number too large")
-    } else {
-        Ok(value)
-    }
+/// The contact at ROW and COL: its row, and its bit in the row's sample.
+fn contact(words: &[&[u8]]) -> Result<(usize, u16), Wrong> {
+    let (row, column) = two(words)?;
+    let row = place(row, 7, "row")?;
+    let column = if column.eq_ignore_ascii_case(b"SF") { 12 } else { place(column, 12, "column")? };
+    Ok((row as usize, 1 << column))
 }

@@ -7,3 +7,4 @@ pub mod console;
 pub mod malformed;
 pub mod module;
 pub mod script;
+pub mod words;

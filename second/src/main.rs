@@ -4,12 +4,13 @@
 //! `second script SEED LINES`                  prints a random script
 //! `second compare SEED LINES PROGRAM [WORDS]` compares a console program with the second module
 //!
-//! `compare` ends with 0 if the answers are the same, with 1 if not. Words that make no sense
-//! end with 2.
+//! The console ends with 1 if some line was answered with `?` or an answer could not be written,
+//! else with 0. `compare` ends with 0 if answers and status are the same, with 1 if not. Words that
+//! make no sense end with 2.
 
 use second::compare::compare;
 use second::console::Console;
-use second::script::script;
+use second::script::{script, Line};
 use std::ffi::OsString;
 use std::io::{self, Read, Write};
 use std::process::exit;
@@ -24,8 +25,8 @@ fn main() {
     let texts: Vec<String> = words.iter().map(|word| word.to_string_lossy().into()).collect();
     let texts: Vec<&str> = texts.iter().map(String::as_str).collect();
     match texts.as_slice() {
-        [] => ignore_broken_pipe(speak()),
-        ["script", seed, lines] => ignore_broken_pipe(print_script(number(seed), number(lines))),
+        [] => exit(speak().unwrap_or_else(status_of)),
+        ["script", seed, lines] => print_script(number(seed), number(lines)),
         ["compare", seed, lines, _, ..] => run_compare(number(seed), number(lines), &words[3..]),
         _ => usage("these words make no sense"),
     }
@@ -45,19 +46,16 @@ fn number(word: &str) -> u64 {
     }
 }
 
-/// A reader that stops early, such as `head`, is no error.
-fn ignore_broken_pipe(result: io::Result<()>) {
-    match result {
-        Err(error) if error.kind() != io::ErrorKind::BrokenPipe => {
-            eprintln!("{error}");
-            exit(1)
-        }
-        _ => {}
+/// The status after an error, which is told unless a reader has gone, such as `head`.
+fn status_of(error: io::Error) -> i32 {
+    if error.kind() != io::ErrorKind::BrokenPipe {
+        eprintln!("{error}");
     }
+    1
 }
 
-/// Answers every complete line that has arrived before it waits for more.
-fn speak() -> io::Result<()> {
+/// Answers every complete line that has arrived before it waits for more. Gives the exit status.
+fn speak() -> io::Result<i32> {
     let (mut input, mut output) = (io::stdin().lock(), io::stdout().lock());
     let mut console = Console::new();
     let mut piece = vec![0; 65_536];
@@ -74,17 +72,25 @@ fn speak() -> io::Result<()> {
         }
         output.write_all(&answers)?;
         output.flush()?;
-        if length == 0 {
-            return Ok(());
+        if length == 0 || console.has_ended() {
+            return Ok(console.status());
         }
     }
 }
 
-/// Prints a random script.
-fn print_script(seed: u64, lines: u64) -> io::Result<()> {
+/// Prints a random script. A reader that stops early is no error.
+fn print_script(seed: u64, lines: u64) {
+    match print_lines(&script(seed, lines as usize)) {
+        Err(error) if error.kind() != io::ErrorKind::BrokenPipe => exit(status_of(error)),
+        _ => {}
+    }
+}
+
+/// Prints lines.
+fn print_lines(lines: &[Line]) -> io::Result<()> {
     let mut output = io::BufWriter::new(io::stdout().lock());
-    for line in script(seed, lines as usize) {
-        output.write_all(&line)?;
+    for line in lines {
+        output.write_all(line)?;
         output.write_all(b"\n")?;
     }
     output.flush()

@@ -5,9 +5,8 @@ use crate::console::LONGEST;
 use crate::script::Line;
 
 /// Lines with something wrong: they all get a `?` answer.
-const WRONG: [&str; 57] = [
+pub const WRONG: [&str; 106] = [
     "foo",
-    "quit",
     "?",
     "0",
     "RESET",
@@ -16,6 +15,18 @@ const WRONG: [&str; 57] = [
     "looks 0 0 0 0 0 0 0 0",
     "loo",
     "irqs",
+    "QUIT",
+    "quits",
+    "exit",
+    "PRESS 0 0",
+    "Release 0 0",
+    "presses 0 0",
+    "press0 0",
+    "waits 1",
+    "help look",
+    "help Numbers",
+    "help numbers 1",
+    "show 1",
     "rea 10 1",
     "read10 1",
     "reset 0",
@@ -29,6 +40,18 @@ const WRONG: [&str; 57] = [
     "held",
     "held 1",
     "held 0 0 0",
+    "quit now",
+    "quit quit",
+    "quit #",
+    "press",
+    "press 0",
+    "press 0 0 0",
+    "press SF",
+    "release",
+    "release 0",
+    "release 0 0 0",
+    "wait",
+    "wait 1 1",
     "read 1G 1",
     "read 10 1A",
     "read 10 F",
@@ -46,6 +69,22 @@ const WRONG: [&str; 57] = [
     "held A 0",
     "held 0 C",
     "held -1 0",
+    "held 0 SF",
+    "press 0 C",
+    "press 0 S",
+    "press 0 SFx",
+    "press 0 0SF",
+    "press SF 0",
+    "press -1 0",
+    "press 0,0",
+    "press 0x1 1",
+    "release 0 F",
+    "release 0 sf0",
+    "release SF SF",
+    "wait A",
+    "wait -1",
+    "wait 1.",
+    "wait SF",
     "look 0 0 0 0 0 0 0 g",
     "look 0,0,0,0,0,0,0,0",
     "look 0x0002 0 0 0 0 0 0 0",
@@ -61,12 +100,22 @@ const WRONG: [&str; 57] = [
     "held 256 0",
     "held 0 256",
     "held 4294967296 0",
+    "press 8 0",
+    "press 0 13",
+    "press 256 0",
+    "press 8 SF",
+    "press 0 18446744073709551616",
+    "release 8 12",
+    "release 7 13",
+    "release 4294967296 0",
+    "wait 65536",
+    "wait 4294967297",
     "look 10000 0 0 0 0 0 0 0",
     "look 1FFFF 1FFFF 1FFFF 1FFFF 1FFFF 1FFFF 1FFFF 10000000000000000",
 ];
 
 /// Lines that look odd and are right, and lines that give no answer.
-const ODD: [&str; 28] = [
+pub const ODD: [&str; 37] = [
     "look",
     "write 02",
     "write FF",
@@ -78,6 +127,15 @@ const ODD: [&str; 28] = [
     "write 09 0000000000000000f",
     "held 007 0012",
     "held 255 0255",
+    "press 00 012",
+    "press 0 sf",
+    "release 0000000000000000000000000000000000 Sf",
+    "release 00 0000000000000000000000000000012",
+    "press\t1  1 \r",
+    "\t release 1\t1",
+    "wait 0",
+    "wait 00",
+    "wait 00000000000000000000000000000000000001",
     "\tirq",
     "irq \t",
     "irq\r",
@@ -98,7 +156,7 @@ const ODD: [&str; 28] = [
 ];
 
 /// Lines with bytes that no text has; they all get a `?` answer.
-const BYTES: [&[u8]; 10] = [
+pub const BYTES: [&[u8]; 10] = [
     b"\xFF",
     b"\0",
     b"irq\0",
@@ -111,18 +169,40 @@ const BYTES: [&[u8]; 10] = [
     b"read 10 \xD9\xA1",
 ];
 
-/// One line that is not made by the other rules.
-pub fn line(chance: &mut Chance) -> Line {
-    match chance.below(60) {
-        0 => long(chance),
-        1..=4 => chance.pick(&BYTES).to_vec(),
-        5..=24 => chance.pick(&ODD).as_bytes().to_vec(),
-        _ => chance.pick(&WRONG).as_bytes().to_vec(),
+/// The places in the three lists. Their lines come in turn, so that a long script has them all.
+pub struct Malformed {
+    wrong: usize,
+    odd: usize,
+    bytes: usize,
+}
+
+impl Malformed {
+    /// Begins somewhere in the lists.
+    pub fn new(chance: &mut Chance) -> Malformed {
+        let (wrong, odd) = (chance.below(WRONG.len()), chance.below(ODD.len()));
+        Malformed { wrong, odd, bytes: chance.below(BYTES.len()) }
+    }
+
+    /// One line that is not made by the other rules.
+    pub fn line(&mut self, chance: &mut Chance) -> Line {
+        match chance.below(60) {
+            0 => long(chance),
+            1..=4 => next(&BYTES, &mut self.bytes).to_vec(),
+            5..=24 => next(&ODD, &mut self.odd).into(),
+            _ => next(&WRONG, &mut self.wrong).into(),
+        }
     }
 }
 
+/// The next of a list, round and round.
+fn next<T: Copy>(list: &[T], place: &mut usize) -> T {
+    *place = (*place + 1) % list.len();
+    list[*place]
+}
+
 /// How a very long line begins, and what fills it.
-const STARTS: [&[u8]; 6] = [b"irq", b"#irq", b"look", b"   ", b"held 0 0", b"read 10 1"];
+const STARTS: [&[u8]; 8] =
+    [b"irq", b"#irq", b"look", b"   ", b"held 0 0", b"read 10 1", b"press 0 0", b"wait 0"];
 const FILLS: [&[u8]; 6] = [b" ", b" ", b"\t ", b" 0", b"0", b"x"];
 
 /// A line of about the longest length, on either side of the edge.

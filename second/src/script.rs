@@ -1,11 +1,13 @@
 //! Random scripts in the console's language, each made from a seed.
 //!
-//! A script is a row of stretches of 50 to 400 lines. Each has a regime: typing, a storm of
-//! changes, picture reading, patience under a long bounce, settings that churn, registers at
-//! random, calls that are declined. The contacts go on from one stretch to the next.
+//! A script is a row of stretches of 50 to 400 lines. Each has a regime: typing, fingers on the
+//! panel, a storm of changes, picture reading, patience under a long bounce, settings that churn,
+//! registers at random, calls that are declined. The contacts go on from one stretch to the next.
+
+mod fingers;
 
 use crate::chance::Chance;
-use crate::malformed;
+use crate::malformed::Malformed;
 
 /// A line without its newline.
 pub type Line = Vec<u8>;
@@ -43,9 +45,11 @@ const BAD_SIZES: [u8; 10] = [0x1C, 0x2D, 0x92, 0x81, 0x21, 0x12, 0x00, 0xFF, 0x9
 type Regime = (fn(&mut Maker), fn(&mut Maker));
 
 /// The regimes; those that are there twice are taken twice as often.
-const REGIMES: [Regime; 9] = [
+const REGIMES: [Regime; 11] = [
     (Maker::begin_typing, Maker::type_keys),
     (Maker::begin_typing, Maker::type_keys),
+    (Maker::begin_fingers, Maker::move_fingers),
+    (Maker::begin_fingers, Maker::move_fingers),
     (Maker::begin_storm, Maker::storm),
     (Maker::begin_storm, Maker::storm),
     (Maker::begin_pictures, Maker::see_pictures),
@@ -55,19 +59,32 @@ const REGIMES: [Regime; 9] = [
     (Maker::begin_storm, Maker::be_declined),
 ];
 
-/// A script of that many lines.
+/// Ways to quit.
+const QUITS: [&str; 6] = ["quit", "quit", "quit\r", " quit", "\tquit \t", " quit \r"];
+
+/// A script of that many lines. Of eight seeds one waits as long as can be in the script's last
+/// tenth, and one quits there.
 pub fn script(seed: u64, count: usize) -> Vec<Line> {
     let mut maker = Maker::new(seed);
     while maker.lines.len() < count {
         maker.stretch();
     }
     maker.lines.truncate(count);
+    match seed % 8 {
+        2 => maker.put_late("wait 65535"),
+        3 => {
+            let quit = maker.chance.pick(&QUITS);
+            maker.put_late(quit);
+        }
+        _ => {}
+    }
     maker.lines
 }
 
 /// A script in the making.
 struct Maker {
     chance: Chance,
+    malformed: Malformed,
     lines: Vec<Line>,
     /// The size that is in force, as far as the script knows.
     size: u8,
@@ -80,13 +97,10 @@ struct Maker {
 impl Maker {
     /// The beginning of a script.
     fn new(seed: u64) -> Maker {
-        Maker {
-            chance: Chance::new(seed),
-            lines: Vec::new(),
-            size: 0x22,
-            closed: [0; 8],
-            bouncing: [0; 8],
-        }
+        let mut chance = Chance::new(seed);
+        let malformed = Malformed::new(&mut chance);
+        let (closed, bouncing) = ([0; 8], [0; 8]);
+        Maker { chance, malformed, lines: Vec::new(), size: 0x22, closed, bouncing }
     }
 
     /// One stretch of lines in one regime, with a few lines aside.
@@ -100,15 +114,23 @@ impl Maker {
         }
     }
 
+    /// Puts a line in the place of another in the script's last tenth, if it has ten lines.
+    fn put_late(&mut self, line: &str) {
+        let count = self.lines.len();
+        if count >= 10 {
+            let place = self.chance.between(count - count / 10, count - 1);
+            self.lines[place] = line.into();
+        }
+    }
+
     /// Now and then a line that has nothing to do with the regime.
     fn aside(&mut self) {
         if self.chance.one_in(20) {
-            let line = malformed::line(&mut self.chance);
+            let line = self.malformed.line(&mut self.chance);
             self.lines.push(line);
         }
         if self.chance.one_in(250) {
-            self.say(vec!["reset".to_string()]);
-            self.size = 0x22;
+            self.reset();
             for _ in 0..self.chance.below(3) {
                 self.write_some(0x84, 1);
                 self.ask_line();
@@ -195,6 +217,12 @@ impl Maker {
         }
     }
 
+    /// A reset.
+    fn reset(&mut self) {
+        self.say(vec!["reset".to_string()]);
+        self.size = 0x22;
+    }
+
     /// A look of these samples.
     fn say_look(&mut self, samples: &[u16]) {
         let mut words = vec!["look".to_string()];
@@ -279,6 +307,12 @@ impl Maker {
             let kept = self.chance.bits() & self.chance.bits() & self.chance.bits();
             self.closed[row] &= kept as u16;
         }
+    }
+
+    /// The keys whose contacts are closed.
+    fn closed_keys(&self) -> Vec<(usize, u32)> {
+        let keys = (0..8).flat_map(|row| (0..13).map(move |column| (row, column)));
+        keys.filter(|(row, column)| self.closed[*row] >> column & 1 == 1).collect()
     }
 
     /// How many contacts are closed.
@@ -457,13 +491,17 @@ impl Maker {
 
     /// Sets a long bounce, and lets contacts stand still just as long.
     fn begin_patience(&mut self) {
-        let bounce = self.chance.pick(&[255, 255, 254, 128, 60, 20, 12, 7]);
+        let bounce: usize = self.chance.pick(&[255, 255, 254, 128, 60, 20, 12, 7]);
         let size = self.good_size();
-        self.write(0x02, &[bounce, size]);
+        self.write(0x02, &[bounce as u8, size]);
         self.touch();
         self.bouncing = [0; 8];
-        for _ in 1..bounce {
+        if self.chance.one_in(2) {
+            let looks = self.chance.pick(&[bounce - 2, bounce - 2, 256, 300]);
             self.look();
+            self.wait(looks);
+        } else {
+            (1..bounce).for_each(|_| self.look());
         }
         self.read(0x10, 1);
         self.look();
@@ -472,7 +510,11 @@ impl Maker {
 
     /// Contacts stand still for long, and the bounce is now and then cut short.
     fn have_patience(&mut self) {
-        self.looks(30);
+        if self.chance.one_in(4) {
+            self.wait_some();
+        } else {
+            self.looks(30);
+        }
         match self.chance.below(12) {
             0..=1 => self.touch(),
             2 => self.write_some(0x02, 1),

@@ -1,6 +1,7 @@
-//! How answers are compared and scripts are cut down.
+//! How answers and ends are compared and scripts are cut down.
 
 use second::compare::{cut_down, difference};
+use second::console::end;
 use second::script::Line;
 
 /// Lines from texts.
@@ -8,32 +9,58 @@ fn lines(texts: &[&str]) -> Vec<Line> {
     texts.iter().map(|text| text.as_bytes().to_vec()).collect()
 }
 
-/// The line of the first difference.
-fn differs_at(script: &[&str], theirs: &[&str]) -> Option<usize> {
-    difference(&lines(script), lines(theirs)).map(|found| found.line)
+/// The line of the first difference from a console that gives these answers and ends.
+fn differs_at(script: &[&str], theirs: &[&str], status: i32) -> Option<usize> {
+    let end = end(status).into_bytes();
+    difference(&lines(script), lines(theirs).into_iter().chain([end])).map(|found| found.line)
 }
 
 #[test]
 fn the_words_after_a_question_mark_do_not_count() {
     let script = ["foo", "irq"];
-    assert_eq!(differs_at(&script, &["? unknown command", "0 yes"]), None);
-    assert_eq!(differs_at(&script, &["? what is foo", "0 yes"]), None);
-    assert_eq!(differs_at(&script, &["?", "0 yes"]), None);
-    assert_eq!(differs_at(&script, &["0", "0 yes"]), Some(0));
-    assert_eq!(differs_at(&script, &["foo?", "0 yes"]), Some(0));
-    assert_eq!(differs_at(&script, &["?", "? yes"]), Some(1));
+    assert_eq!(differs_at(&script, &["? unknown command", "0 yes"], 1), None);
+    assert_eq!(differs_at(&script, &["? what is foo", "0 yes"], 1), None);
+    assert_eq!(differs_at(&script, &["?", "0 yes"], 1), None);
+    assert_eq!(differs_at(&script, &["0", "0 yes"], 1), Some(0));
+    assert_eq!(differs_at(&script, &["foo?", "0 yes"], 1), Some(0));
+    assert_eq!(differs_at(&script, &["?", "? yes"], 1), Some(1));
 }
 
 #[test]
 fn answers_that_are_missing_or_too_many() {
     let script = ["# comment", "irq", "", "read 10 1"];
-    assert_eq!(differs_at(&script, &["0 yes", "0 7F"]), None);
-    assert_eq!(differs_at(&script, &["0 yes", "0 7f"]), Some(3));
-    assert_eq!(differs_at(&script, &["0 yes"]), Some(3));
-    assert_eq!(differs_at(&script, &[]), Some(1));
-    assert_eq!(differs_at(&script, &["0 yes", "0 7F", "0"]), Some(3));
-    assert_eq!(differs_at(&[], &[]), None);
-    assert_eq!(differs_at(&[], &["0"]), Some(0));
+    assert_eq!(differs_at(&script, &["0 yes", "0 7F"], 0), None);
+    assert_eq!(differs_at(&script, &["0 yes", "0 7f"], 0), Some(3));
+    assert_eq!(differs_at(&script, &["0 yes"], 0), Some(3));
+    assert_eq!(differs_at(&script, &[], 0), Some(1));
+    assert_eq!(differs_at(&script, &["0 yes", "0 7F", "0"], 0), Some(3));
+    assert_eq!(differs_at(&[], &[], 0), None);
+    assert_eq!(differs_at(&[], &["0"], 0), Some(0));
+}
+
+#[test]
+fn the_status_is_that_of_the_lines_that_were_read() {
+    for (script, answers, status) in [
+        (&["irq", "#", "read 10 1"][..], &["0 yes", "0 7F"][..], 0),
+        (&["irq", "foo", "read 10 1"], &["0 yes", "?", "0 7F"], 1),
+        (&["irq", "quit", "foo"], &["0 yes"], 0),
+        (&["foo", "irq", "quit"], &["?", "0 yes"], 1),
+        (&["quit now", "irq"], &["?", "0 yes"], 1),
+    ] {
+        let last = Some(script.len() - 1);
+        assert_eq!(differs_at(script, answers, status), None, "{script:?}");
+        for wrong in [1 - status, 2, 255] {
+            assert_eq!(differs_at(script, answers, wrong), last, "{script:?}, {wrong}");
+        }
+    }
+}
+
+#[test]
+fn what_stands_after_quit_is_not_read() {
+    let script = ["irq", "quit", "irq", "read 10 1"];
+    assert_eq!(differs_at(&script, &["0 yes"], 0), None);
+    assert_eq!(differs_at(&script, &["0 yes", "0 yes", "0 7F"], 0), Some(3));
+    assert_eq!(differs_at(&script, &["0 yes", "?", "0 yes", "0 7F"], 1), Some(3));
 }
 
 #[test]

@@ -1,17 +1,22 @@
 //! The random scripts find every planted error, and what they find is cut down to a few lines.
 //!
-//! A planted error is a plausible mistake: an edit of src/module.rs, tests/planted/NAME.edit. The
-//! module with the edit in it is compared as another console is. Each error can be seen through
-//! the console's language; mistakes that no bus can see are not among them.
+//! A planted error is a plausible mistake: an edit of src/module.rs or src/console.rs,
+//! tests/planted/NAME.edit. The module or the console with the edit in it is compared as another
+//! console is. Each error can be seen through the console's language; mistakes that no bus can see
+//! are not among them.
 
-use second::calls::{self, Calls};
+// The edited copies find here what they name.
+use second::{calls, module, words};
+
 use second::compare::{cut_down, difference};
 use second::console::Console;
-use second::module::Module;
 use second::script::{script, Line};
 
-/// The name of an error, and the module with this error after reset.
-type Planted = (&'static str, fn() -> Box<dyn Calls>);
+/// The answers that a console gives to a script, with their places.
+type Answers<'a> = Box<dyn Iterator<Item = (usize, String)> + 'a>;
+
+/// The name of an error, and what the console with this error answers to a script.
+type Planted = (&'static str, for<'a> fn(&'a [Line]) -> Answers<'a>);
 
 include!(concat!(env!("OUT_DIR"), "/planted.rs"));
 
@@ -27,11 +32,10 @@ fn longest(name: &str) -> usize {
     }
 }
 
-/// The first line that a module with a planted error answers differently.
+/// The first line that a console with a planted error answers differently.
 fn differs(lines: &[Line], planted: &Planted) -> Option<usize> {
-    let mut console = Console::over(planted.1());
-    let answers = lines.iter().filter_map(|line| console.answer(line));
-    difference(lines, answers.map(String::into_bytes)).map(|found| found.line)
+    let answers = planted.1(lines).map(|(_, answer)| answer.into_bytes());
+    difference(lines, answers).map(|found| found.line)
 }
 
 #[test]
@@ -59,7 +63,7 @@ fn every_planted_error_is_found_by_other_seeds() {
 
 #[test]
 fn without_an_error_there_is_no_difference() {
-    let plain: Planted = ("none", || Box::new(Module::new()));
+    let plain: Planted = ("none", |script| Box::new(Console::new().answers(script)));
     assert_eq!(differs(&script(SEED, LINES), &plain), None);
 }
 

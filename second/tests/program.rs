@@ -1,5 +1,6 @@
-//! The program from outside: its words, its answers in time, and `compare`.
+//! The program from outside: its words, its answers in time, its status, and `compare`.
 
+use std::fs::OpenOptions;
 use std::io::{BufRead, BufReader, Write};
 use std::process::{Command, Output, Stdio};
 
@@ -56,11 +57,12 @@ fn compare_finds_itself_the_same() {
 fn compare_shows_a_difference_cut_down() {
     // A program that gives KBDBOUNCE 1 as 0 if KBDSIZE 8C is read with it.
     let wrong = "\"$0\" | sed 's/^0 01 8C$/0 00 8C/'";
-    let output = run(&["compare", "9", "5000", "sh", "-c", wrong, SECOND]);
+    let words = ["compare", "8", "5000", "bash", "-o", "pipefail", "-c", wrong, SECOND];
+    let output = run(&words);
     assert_eq!(output.status.code(), Some(1));
     let text = text(&output);
     let (before, short) = text.split_once("cut down to 2 lines:\n").unwrap();
-    assert!(before.starts_with("different: seed 9, line "));
+    assert!(before.starts_with("different: seed 8, line "));
     let lines: Vec<&str> = short.lines().collect();
     assert_eq!(lines.len(), 5);
     assert!(lines[0].contains("write"));
@@ -73,7 +75,7 @@ fn compare_shows_a_difference_cut_down() {
 fn compare_shows_a_program_that_does_not_answer() {
     let output = run(&["compare", "9", "500", SECOND, "script", "1", "0"]);
     assert_eq!(output.status.code(), Some(1));
-    assert!(text(&output).contains("the program:   (no answer)"));
+    assert!(text(&output).contains("the program:   (ends with status 0)"));
     assert!(text(&output).contains("cut down to 1 lines:"));
 }
 
@@ -82,17 +84,119 @@ fn compare_shows_a_program_that_answers_unasked() {
     let output = run(&["compare", "9", "500", SECOND, "script", "1", "9"]);
     assert_eq!(output.status.code(), Some(1));
     assert!(text(&output).contains("cut down to 0 lines:"));
-    assert!(text(&output).contains("second module: (no answer)"));
+    assert!(text(&output).contains("second module: (ends with status 0)"));
+}
+
+/// What `compare` says of a script of that many lines and a program whose end is another.
+fn compare_ending(lines: &str, ending: &str) -> (Option<i32>, String) {
+    let program = format!("\"$0\"; {ending}");
+    let output = run(&["compare", "9", lines, "sh", "-c", &program, SECOND]);
+    (output.status.code(), text(&output))
 }
 
 #[test]
 fn compare_shows_a_program_that_ends_badly() {
-    let output = run(&["compare", "9", "500", "sh", "-c", "\"$0\"; exit 3", SECOND]);
+    for (ending, shown) in [("exit 3", "status 3"), ("kill -9 $$", "by signal: 9")] {
+        let (code, text) = compare_ending("500", ending);
+        assert_eq!(code, Some(1));
+        assert!(text.contains("second module: (ends with status 1)"), "{text}");
+        assert!(text.contains("cut down to 0 lines:"), "{text}");
+        assert!(text.contains("second module: (ends with status 0)"), "{text}");
+        assert!(text.contains("the program:   (ends "), "{text}");
+        assert!(text.contains(shown), "{text}");
+    }
+}
+
+#[test]
+fn compare_shows_a_wrong_status() {
+    // 500 lines have some that are wrong, and an empty script has none.
+    assert_eq!(compare_ending("500", "exit $?").0, Some(0));
+    assert_eq!(compare_ending("500", "exit 1").0, Some(0));
+    assert_eq!(compare_ending("0", "exit $?").0, Some(0));
+    assert_eq!(compare_ending("0", "exit 0").0, Some(0));
+    let (code, text) = compare_ending("500", "exit 0");
+    assert_eq!(code, Some(1));
+    assert!(text.starts_with("different: seed 9, line 500 of 500\n"), "{text}");
+    let (_, short) = text.split_once("cut down to 1 lines:\n").unwrap();
+    assert!(short.contains("second module: (ends with status 1)"), "{text}");
+    assert!(short.contains("the program:   (ends with status 0)"), "{text}");
+    let (code, text) = compare_ending("0", "exit 1");
+    assert_eq!(code, Some(1));
+    assert!(text.contains("second module: (ends with status 0)"), "{text}");
+    assert!(text.contains("the program:   (ends with status 1)"), "{text}");
+}
+
+#[test]
+fn compare_shows_a_program_that_does_not_quit() {
+    // The script of seed 3 has a quit. Here it is a blank line to the program.
+    let program = "tr -d '\\r' | sed 's/^[ \t]*quit[ \t]*$//' | \"$0\"";
+    let output = run(&["compare", "3", "2000", "bash", "-o", "pipefail", "-c", program, SECOND]);
     assert_eq!(output.status.code(), Some(1));
-    assert!(text(&output).contains("second module: (no answer)"));
-    assert!(text(&output).contains("the program:   (the program's end: exit status: 3)"));
-    let output = run(&["compare", "9", "500", "sh", "-c", "\"$0\"; exit 0", SECOND]);
-    assert_eq!(output.status.code(), Some(0));
+    let text = text(&output);
+    let (_, short) = text.split_once("cut down to 2 lines:\n").unwrap();
+    assert!(short.lines().next().unwrap().contains("quit"), "{text}");
+    assert!(short.contains("second module: (ends with status 0)"), "{text}");
+}
+
+/// What the program answers to a whole input, and its status.
+fn speak(input: &[u8], output: Stdio) -> (String, Option<i32>) {
+    let mut command = Command::new(SECOND);
+    let command = command.stdin(Stdio::piped()).stdout(output).stderr(Stdio::null());
+    let mut child = command.spawn().unwrap();
+    // A program that has ended reads no more.
+    let _ = child.stdin.take().unwrap().write_all(input);
+    let output = child.wait_with_output().unwrap();
+    (text(&output), output.status.code())
+}
+
+#[test]
+fn the_status_tells_of_wrong_lines() {
+    for (input, answers, status) in [
+        ("", "", 0),
+        ("# foo\n\nirq\n", "0 yes\n", 0),
+        ("held 8 0\nread 00 1\n", "7 no\n5\n", 0),
+        ("irq\nfoo\nirq\n", "0 yes\n? unknown command: foo\n0 yes\n", 1),
+        ("irq 1", "? too many words\n", 1),
+        ("irq\nquit\nfoo\n", "0 yes\n", 0),
+        ("foo\nquit\nirq\n", "? unknown command: foo\n", 1),
+        ("quit now\nirq\n", "? too many words\n0 yes\n", 1),
+    ] {
+        let (said, code) = speak(input.as_bytes(), Stdio::piped());
+        assert_eq!((said.as_str(), code), (answers, Some(status)), "{input}");
+    }
+}
+
+#[test]
+fn the_status_tells_of_answers_that_could_not_be_written() {
+    let full = || Stdio::from(OpenOptions::new().write(true).open("/dev/full").unwrap());
+    assert_eq!(speak(b"irq\n", full()).1, Some(1));
+    assert_eq!(speak(b"# no answer\n", full()).1, Some(0));
+}
+
+#[test]
+fn the_status_tells_of_a_reader_that_has_gone() {
+    let mut child =
+        Command::new(SECOND).stdin(Stdio::piped()).stdout(Stdio::piped()).spawn().unwrap();
+    drop(child.stdout.take());
+    let mut input = child.stdin.take().unwrap();
+    // Another test that starts a program at this moment holds the pipe too, for a while. So lines
+    // are sent until none is read any more.
+    let unread = (0..100_000).find(|_| input.write_all(b"irq\n").is_err());
+    assert!(unread.is_some());
+    assert_eq!(child.wait().unwrap().code(), Some(1));
+}
+
+#[test]
+fn quit_ends_while_the_input_is_open() {
+    let mut child =
+        Command::new(SECOND).stdin(Stdio::piped()).stdout(Stdio::piped()).spawn().unwrap();
+    let mut input = child.stdin.take().unwrap();
+    input.write_all(b"irq\n \tquit\t\r\nirq\nfoo\n").unwrap();
+    let mut answers = BufReader::new(child.stdout.take().unwrap()).lines();
+    assert_eq!(answers.next().unwrap().unwrap(), "0 yes");
+    assert!(answers.next().is_none());
+    assert_eq!(child.wait().unwrap().code(), Some(0));
+    drop(input);
 }
 
 #[test]

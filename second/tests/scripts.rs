@@ -1,7 +1,9 @@
 //! What the random scripts reach.
 
 use second::console::Console;
+use second::malformed::{BYTES, ODD, WRONG};
 use second::script::{script, Line};
+use std::collections::HashSet;
 
 /// The answers to a script.
 fn answers(script: &[Line]) -> Vec<String> {
@@ -18,7 +20,11 @@ fn answers_to(script: &[Line], command: &str) -> Vec<String> {
 
 #[test]
 fn a_longer_script_begins_with_a_shorter_one() {
-    assert_eq!(script(3, 1000), script(3, 5000)[..1000]);
+    assert_eq!(script(1, 1000), script(1, 5000)[..1000]);
+    // All but its last tenth, if there is a special line.
+    for seed in 2..4 {
+        assert_eq!(script(seed, 1000)[..900], script(seed, 5000)[..900]);
+    }
     assert_ne!(script(3, 1000), script(4, 1000));
     assert!(script(3, 0).is_empty());
 }
@@ -54,8 +60,77 @@ fn the_queue_runs_full_and_empty() {
 fn nothing_without_counterpart_is_asked() {
     let lines = script(1, 60_000);
     assert!(lines.iter().all(|line| !line.contains(&b'\n')));
-    for word in ["show", "help"] {
-        let asked = |line: &Line| String::from_utf8_lossy(line).contains(word);
-        assert!(!lines.iter().any(asked), "{word}");
+    assert!(!answers(&lines).contains(&".".to_string()));
+}
+
+/// How many lines of a script begin with this word.
+fn count(script: &[Line], word: &str) -> usize {
+    let first = |line: &&Line| {
+        let text = String::from_utf8_lossy(line);
+        text.split_whitespace().next() == Some(word)
+    };
+    script.iter().filter(first).count()
+}
+
+/// Whether a script has a line of exactly these words.
+fn says(script: &[Line], line: &str) -> bool {
+    script.iter().any(|said| said == line.as_bytes())
+}
+
+#[test]
+fn every_malformed_line_is_in_every_script() {
+    for seed in 1..4 {
+        let lines = script(seed, 60_000);
+        let found: HashSet<&[u8]> = lines.iter().map(Line::as_slice).collect();
+        let texts = WRONG.iter().chain(&ODD).map(|text| text.as_bytes());
+        for line in texts.chain(BYTES) {
+            assert!(found.contains(line), "{} with seed {seed}", String::from_utf8_lossy(line));
+        }
+    }
+}
+
+#[test]
+fn every_wrong_line_is_refused() {
+    for line in WRONG.iter().map(|text| text.as_bytes()).chain(BYTES) {
+        let answer = Console::new().answer(line).unwrap();
+        assert!(answer.starts_with("? "), "{}", String::from_utf8_lossy(line));
+    }
+}
+
+#[test]
+fn one_script_of_eight_quits_late() {
+    for seed in 1..17 {
+        let lines = script(seed, 2000);
+        let (mut console, mut ends) = (Console::new(), None);
+        for (place, line) in lines.iter().enumerate() {
+            console.answer(line);
+            ends = ends.or(Some(place).filter(|_| console.has_ended()));
+        }
+        match seed % 8 {
+            3 => assert!((1800..2000).contains(&ends.unwrap()), "seed {seed}"),
+            _ => assert_eq!(ends, None, "seed {seed}"),
+        }
+    }
+}
+
+#[test]
+fn one_script_of_eight_waits_as_long_as_can_be() {
+    for seed in 1..17 {
+        let lines = script(seed, 2000);
+        assert!(!says(&lines[..1800], "wait 65535"), "seed {seed}");
+        assert_eq!(says(&lines[1800..], "wait 65535"), seed % 8 == 2, "seed {seed}");
+    }
+}
+
+#[test]
+fn fingers_move_in_every_script() {
+    for seed in 1..4 {
+        let lines = script(seed, 30_000);
+        for word in ["press", "release", "wait"] {
+            assert!(count(&lines, word) > 250, "{word} with seed {seed}");
+        }
+        for line in ["wait 0", "wait 1", "wait 256", "press 0 SF", "release 1 sf"] {
+            assert!(says(&lines, line), "{line} with seed {seed}");
+        }
     }
 }

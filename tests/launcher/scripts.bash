@@ -56,6 +56,29 @@ see_several() {
     seen "several scripts begin with a new panel each"
 }
 
+# The status tells of a question mark, and of answers that can't be written; what a file has already stays there.
+see_status() {
+    printf 'irq\nrest\nirq\n' >"$work/wrong"
+    gives 1 ./panel <"$work/wrong"
+    lines out 3
+    says out '? unknown command: rest (help lists them)'
+    echo before >"$work/appended"
+    ./panel <examples/trim.txt >>"$work/appended" || failed "answers that go behind others"
+    { echo before && cat examples/trim.out; } | cmp -s - "$work/appended" || failed "a file loses what it had"
+    ! ./panel <examples/trim.txt >/dev/full 2>"$work/err" || failed "answers that can't be written are no failure"
+    seen "the status tells of a question mark, and of answers that can't be written"
+}
+
+# A quit ends the input: nothing behind it is read, shown or missed.
+see_quit() {
+    printf 'irq\n quit \r\nirq\nrest\n' >"$work/quits"
+    gives 0 ./panel <"$work/quits"
+    lines out 1
+    gives 0 ./panel "$work/quits"
+    [ "$(tr -d '\r' <"$work/out" | tr -s ' ' | tr '\n' '|')" = 'irq 0 yes| quit |' ] || failed "a script with a quit"
+    seen "nothing behind a quit is read"
+}
+
 # What there is, and what there isn't.
 see_help() {
     gives 0 env PATH=/usr/bin:/bin ./panel --help
@@ -92,5 +115,7 @@ see_answers
 see_beside
 see_long_answers
 see_several
+see_status
+see_quit
 see_help
 see_readme

@@ -15,4 +15,17 @@ see_terminal() {
     seen "a prompt on a terminal, and nothing of it elsewhere"
 }
 
+# A quit ends it at once, though more could be typed; on a terminal a question mark is no failure.
+see_leaving() {
+    mkfifo "$work/keys"
+    { printf 'rest\nquit\n' && exec sleep 30; } >"$work/keys" &
+    local typist=$!
+    gives 0 timeout 20 script -qec ./panel /dev/null <"$work/keys"
+    kill "$typist"
+    tr -d '\r' <"$work/out" >"$work/plain"
+    grep -q '? unknown command: rest' "$work/plain" || failed "an answer is missing before a quit"
+    seen "a quit ends the session on a terminal"
+}
+
 see_terminal
+see_leaving

@@ -33,7 +33,7 @@ see_returns() {
 see_faults() {
     printf 'write 02 01\nlok 1\nlook 1 0 0 0 0 0 0 0\n' >"$work/faulty"
     gives 1 ./panel --timeline "$work/faulty"
-    says err "panel: line 2 was answered by ? unknown command"
+    says err "panel: line 2 was answered by ? unknown command: lok (help lists them)"
     grep -q '^0\.0   00  00=$' "$work/out" || failed "a session with a fault isn't drawn"
     gives 1 ./panel --timeline "$work/none"
     sentence "there is no file $work/none"

@@ -1,21 +1,42 @@
-// The words behind a command: no more words, two numbers, a list of numbers.
+// The words behind a command: no more words, one number, two numbers, a list of numbers.
 use text::number::Fault;
 use text::number::Number;
 use text::number::number_of;
+use text::word::is_end;
 use text::word::word_from;
 ghost use Prim.Native.Nat.{_≤_};
 ghost use lib.ListN.{length};
 
-// Two numbers, or what is wrong with them.
+// What is wanted of a word: a sample; an address or a byte; how many bytes to read; a row or a column that is asked for; the row and the column of a contact;
+// how many looks to make.
+pub(crate) enum Kind {
+    Sample,
+    Byte,
+    Count,
+    Place,
+    Row,
+    Col,
+    Looks,
+}
+
+// What is wrong, the word that is, by its places, and what was wanted of it.
+pub(crate) struct Wrong {
+    pub fault: Fault,
+    pub kind: Kind,
+    pub start: usize,
+    pub end: usize,
+}
+
+// Two numbers, or what is wrong.
 pub(crate) enum Pair {
     Numbers(u32, u32),
-    Wrong(Fault),
+    Wrong(Wrong),
 }
 
 // Could a list be read?
 pub(crate) enum Heard {
     Well,
-    Wrong(Fault),
+    Wrong(Wrong),
 }
 
 // A list of numbers: how many it has.
@@ -24,28 +45,111 @@ pub(crate) struct Listed {
     pub heard: Heard,
 }
 
-// The number of a word, and the place after the word.
+// The number of a word, and the word's places.
 struct Told {
     number: Number,
+    start: usize,
     end: usize,
 }
 
+// The base of a number.
+fn base_of(kind: Kind) -> usize
+    ensures { λ r. ⌜ r ≤ 16 ⌝ }
+{
+    match kind {
+        Kind::Sample => 16,
+        Kind::Byte => 16,
+        _ => 10,
+    }
+}
+
+// The most that a number can be.
+fn most_of(kind: Kind) -> u32 {
+    match kind {
+        Kind::Sample => 0xFFFF,
+        Kind::Count => 1024,
+        Kind::Row => 7,
+        Kind::Col => 12,
+        Kind::Looks => 65535,
+        _ => 0xFF,
+    }
+}
+
+// Is a byte this letter, in either case?
+fn is_letter(byte: u8, capital: u8) -> bool
+    requires { ⌜ capital ≤ 90 ⌝ }
+{
+    if byte == capital {
+        return true;
+    }
+    byte == capital + 32
+}
+
+// Does a word stand for a special function key?
+fn is_special(word: &[u8]) -> bool {
+    if word.len() != 2 {
+        return false;
+    }
+    is_letter(word[0], b'S') & is_letter(word[1], b'F')
+}
+
+// The number of a word; SF is column 12.
+fn value_of(word: &[u8], kind: Kind) -> Number {
+    let number = number_of(word, base_of(kind), most_of(kind));
+    match kind {
+        Kind::Col => {
+            if is_special(word) {
+                return Number::Value(12);
+            }
+            number
+        }
+        _ => number,
+    }
+}
+
+// The number of the next word, from a place on.
+fn number_at(line: &[u8], from: usize, kind: Kind) -> Told
+    requires { ⌜ from ≤ length (now line) ⌝ }
+    ensures { λ r. ⌜ r .end ≤ length (now (line .entry)) ⌝ }
+{
+    let w = word_from(line, from);
+    let start = w.start;
+    let end = w.end;
+    Told {
+        number: value_of(&line[start..end], kind),
+        start: start,
+        end: end,
+    }
+}
+
+// What is wrong with a word.
+fn of_word(fault: Fault, kind: Kind, start: usize, end: usize) -> Wrong {
+    Wrong {
+        fault: fault,
+        kind: kind,
+        start: start,
+        end: end,
+    }
+}
+
+// A word too many.
+pub(crate) fn too_many() -> Wrong {
+    of_word(Fault::TooMany, Kind::Byte, 0, 0)
+}
+
+// Too few words.
+pub(crate) fn too_few() -> Wrong {
+    of_word(Fault::TooFew, Kind::Byte, 0, 0)
+}
+
 // A list with something wrong.
-fn wrong(fault: Fault) -> Listed
+fn unheard(wrong: Wrong) -> Listed
     ensures { λ r. ⌜ r .count ≤ 0 ⌝ }
 {
     Listed {
         count: 0,
-        heard: Heard::Wrong(fault),
+        heard: Heard::Wrong(wrong),
     }
-}
-
-// Is there no word, from a place on?
-fn is_end(line: &[u8], from: usize) -> bool
-    requires { ⌜ from ≤ length (now line) ⌝ }
-{
-    let w = word_from(line, from);
-    w.start == w.end
 }
 
 // Has a line no words?
@@ -53,72 +157,60 @@ pub(crate) fn is_empty(line: &[u8]) -> bool {
     is_end(line, 0)
 }
 
-// The number of the next word, from a place on.
-fn number_at(line: &[u8], from: usize, base: usize, most: u32) -> Told
-    requires { ⌜ (from ≤ length (now line)) × (base ≤ 16) ⌝ }
-    ensures { λ r. ⌜ r .end ≤ length (now (line .entry)) ⌝ }
-{
-    let w = word_from(line, from);
-    let start = w.start;
-    let end = w.end;
-    Told {
-        number: number_of(&line[start..end], base, most),
-        end: end,
-    }
-}
-
-// The numbers of all words, base 16, each at most this, go to the list.
-pub(crate) fn list_of(line: &[u8], most: u16, values: &mut [u16]) -> Listed
-    ensures { λ r. ⌜ r .count ≤ length (now (values .exit)) ⌝ }
+// The numbers of all words, of one kind, go to the list.
+pub(crate) fn list_of(line: &[u8], kind: Kind, numbers: &mut [u32]) -> Listed
+    ensures { λ r. ⌜ r .count ≤ length (now (numbers .exit)) ⌝ }
 {
     let mut at: usize = 0;
     let mut count: usize = 0;
-    while count < values.len() {
+    while count < numbers.len() {
         if is_end(line, at) {
             return Listed {
                 count: count,
                 heard: Heard::Well,
             };
         }
-        let told = number_at(line, at, 16, most as u32);
+        let told = number_at(line, at, kind);
+        let start = told.start;
         let end = told.end;
         let number = told.number;
         match number {
             Number::Value(value) => {
-                values[count] = (value % 65536) as u16;
+                numbers[count] = value;
                 count = count + 1;
                 at = end;
             }
-            Number::Wrong(fault) => return wrong(fault),
+            Number::Wrong(fault) => return unheard(of_word(fault, kind, start, end)),
         }
     }
-    wrong(Fault::TooMany)
+    unheard(too_many())
 }
 
-// Two numbers, of which the first is known; the second is base 10 and at most this; no word stands after it.
-fn pair_with(first: u32, line: &[u8], from: usize, most: u32) -> Pair
+// Two numbers, of which the first is known; no word stands after the second.
+pub(crate) fn pair_with(first: u32, line: &[u8], from: usize, kind: Kind) -> Pair
     requires { ⌜ from ≤ length (now line) ⌝ }
 {
-    let told = number_at(line, from, 10, most);
+    let told = number_at(line, from, kind);
+    let start = told.start;
+    let end = told.end;
     let number = told.number;
-    if !is_end(line, told.end) {
-        return Pair::Wrong(Fault::TooMany);
+    if !is_end(line, end) {
+        return Pair::Wrong(too_many());
     }
     match number {
         Number::Value(value) => Pair::Numbers(first, value),
-        Number::Wrong(fault) => Pair::Wrong(fault),
+        Number::Wrong(fault) => Pair::Wrong(of_word(fault, kind, start, end)),
     }
 }
 
-// Two numbers: the first at most 255, the second base 10 and at most this.
-pub(crate) fn pair_of(line: &[u8], base: usize, most: u32) -> Pair
-    requires { ⌜ base ≤ 16 ⌝ }
-{
-    let told = number_at(line, 0, base, 0xFF);
+// Two numbers, of two kinds.
+pub(crate) fn pair_of(line: &[u8], kind: Kind, second: Kind) -> Pair {
+    let told = number_at(line, 0, kind);
+    let start = told.start;
     let end = told.end;
     let number = told.number;
     match number {
-        Number::Value(value) => pair_with(value, line, end, most),
-        Number::Wrong(fault) => Pair::Wrong(fault),
+        Number::Value(value) => pair_with(value, line, end, second),
+        Number::Wrong(fault) => Pair::Wrong(of_word(fault, kind, start, end)),
     }
 }

@@ -1,29 +1,47 @@
-// The panel drawn for a person, and the list of commands.
+// The panel drawn for a person.
 use crate::out;
+use crate::session::Session;
+use keys::COLS;
 use keys::Col;
+use keys::KEYS;
 use keys::Row;
 use state::Module;
+use state::PLACES;
 use text::page;
 use text::page::Page;
 
 // The line above the keys: five places, and three for each column's label.
 const HEAD: [u8; 41] = *b"row    0  1  2  3  4  5  6  7  8  9 10 11";
 
-// The sign of a key, held or open; a blank where there is no such key.
-fn sign(held: &[bool; 104], row: u8, col: u8) -> u8 {
-    let key = keys::key_at(Row(row), Col(col));
-    if keys::NO_KEY <= key {
-        return b' ';
-    }
-    if held[key] {
+// The column of a row's special function key.
+const SPECIAL: u8 = COLS - 1;
+
+// The sign of a key: held or open; a sign of its own while its contact reads otherwise and settles.
+fn sign(held: bool, run: u8) -> u8 {
+    if held {
+        if 0 < run {
+            return b'-';
+        }
         return b'#';
+    }
+    if 0 < run {
+        return b'+';
     }
     b'.'
 }
 
+// The sign of the key there; a blank if there is none.
+fn sign_at<'a>(held: &'a [bool; KEYS], run: &'a [u8; KEYS], row: Row, col: Col) -> u8 {
+    let key = keys::key_at(row, col);
+    if KEYS <= key {
+        return b' ';
+    }
+    sign(held[key], run[key])
+}
+
 // The mark of a key: its sign behind two blanks.
-fn mark(p: Page, held: &[bool; 104], row: u8, col: u8) -> Page {
-    let words = [b' ', b' ', sign(held, row, col)];
+fn mark<'a>(p: Page, held: &'a [bool; KEYS], run: &'a [u8; KEYS], row: Row, col: Col) -> Page {
+    let words = [b' ', b' ', sign_at(held, run, row, col)];
     out::text(p, &words)
 }
 
@@ -35,41 +53,73 @@ fn columns(p: Page, cols: u8) -> Page {
 }
 
 // The marks of a row's keys.
-fn marks(p: Page, held: &[bool; 104], row: u8, cols: u8) -> Page {
+fn marks<'a>(p: Page, held: &'a [bool; KEYS], run: &'a [u8; KEYS], row: u8, cols: u8) -> Page {
     let mut next = p;
     let mut c: u8 = 0;
     while c < cols {
-        next = mark(next, held, row, c);
+        next = mark(next, held, run, Row(row), Col(c));
         c = c + 1;
     }
     next
 }
 
 // The line of a row: its label, its keys, and its special function key apart.
-fn keys_of(p: Page, held: &[bool; 104], row: u8, cols: u8) -> Page {
-    let label = out::decimal(out::text(p, b" "), row as u32);
-    let marked = marks(out::text(label, b"   "), held, row, cols);
-    let special = mark(out::text(marked, b"  "), held, row, 12);
-    out::text(special, b"\n")
+fn keys_of<'a>(p: Page, held: &'a [bool; KEYS], run: &'a [u8; KEYS], row: u8, cols: u8) -> Page {
+    let label = out::decimal(out::put(p, b' '), row as u32);
+    let marked = marks(out::text(label, b"   "), held, run, row, cols);
+    let apart = out::text(marked, b"  ");
+    out::end(mark(apart, held, run, Row(row), Col(SPECIAL)))
 }
 
 // The keys of the size.
-fn grid(p: Page, held: &[bool; 104], size: u8) -> Page {
+fn grid<'a>(p: Page, held: &'a [bool; KEYS], run: &'a [u8; KEYS], size: u8) -> Page {
     let rows = size / 16;
     let cols = size % 16;
     let mut next = columns(p, cols);
     let mut r: u8 = 0;
     while r < rows {
-        next = keys_of(next, held, r, cols);
+        next = keys_of(next, held, run, r, cols);
         r = r + 1;
     }
     next
 }
 
-// The codes that wait, oldest first.
-fn codes(p: Page, queue: [u8; 15], count: u8) -> Page {
+// The column of a code.
+fn column(p: Page, col: u8) -> Page {
+    if col == SPECIAL {
+        return out::text(p, b" SF\n");
+    }
+    out::end(out::decimal(out::text(p, b" col "), col as u32))
+}
+
+// What a code tells.
+fn name(p: Page, code: u8) -> Page {
+    let row = ((code % 128) / 16) as u32;
+    let col = code % 16;
+    if code < 128 {
+        let press = out::hex(p, b"    ", code);
+        return column(out::decimal(out::text(press, b" press row "), row), col);
+    }
+    let release = out::hex(p, b"    ", code);
+    column(out::decimal(out::text(release, b" release row "), row), col)
+}
+
+// What each of some codes tells.
+fn names(p: Page, codes: &[u8]) -> Page {
+    let mut next = p;
+    let mut i: usize = 0;
+    while i < codes.len() {
+        next = name(next, codes[i]);
+        i = i + 1;
+    }
+    next
+}
+
+// The codes that wait, oldest first, and what they tell.
+fn codes(p: Page, queue: [u8; PLACES], count: u8) -> Page {
     let n = page::least(count as usize, 15);
-    out::listed(out::text(p, b"waiting:"), &queue[0..n])
+    let waiting = out::listed(out::text(p, b"waiting:"), &queue[0..n]);
+    names(out::end(waiting), &queue[0..n])
 }
 
 // A name and a flag.
@@ -77,16 +127,20 @@ fn flag(p: Page, name: &[u8], set: bool) -> Page {
     out::decimal(out::text(p, name), set as u32)
 }
 
-// KBDRIS with its flags, and KBDMIS.
-fn interrupts(p: Page, m: Module) -> Page {
+// KBDRIS with its flags.
+fn raw(p: Page, m: Module) -> Page {
     let ris = flags::ris(m.relint, m.count, m.rklint, m.rsint);
-    let mis = flags::mis(m.relint, m.count, m.rklint, m.rsint, m.mask);
-    let byte = out::hex(p, b"\nKBDRIS ", ris);
+    let byte = out::hex(p, b"KBDRIS ", ris);
     let relint = flag(byte, b": RELINT ", m.relint);
     let revtint = flag(relint, b", REVTINT ", 0 < m.count);
     let rklint = flag(revtint, b", RKLINT ", m.rklint);
-    let rsint = flag(rklint, b", RSINT ", m.rsint);
-    out::hex(rsint, b"\nKBDMIS ", mis)
+    flag(rklint, b", RSINT ", m.rsint)
+}
+
+// KBDMIS.
+fn masked(p: Page, m: Module) -> Page {
+    let mis = flags::mis(m.relint, m.count, m.rklint, m.rsint, m.mask);
+    out::hex(p, b"\nKBDMIS ", mis)
 }
 
 // The settings, and the power-on interrupt.
@@ -106,28 +160,13 @@ fn level(p: Page, asserted: bool) -> Page {
 }
 
 // The panel: keys, codes, registers, flags and line; the last line is a full stop.
-pub(crate) fn show(p: Page, m: Module) -> Page {
+pub(crate) fn show(s: Session) -> Session {
+    let m = s.panel;
     let held = m.held;
+    let run = m.run;
     let queue = m.queue;
-    let keys = grid(p, &held, m.size);
-    let waiting = codes(keys, queue, m.count);
-    level(settings(interrupts(waiting, m), m), flags::line(m))
-}
-
-// The commands; the last line is a full stop.
-pub(crate) fn help(p: Page) -> Page {
-    out::text(
-        p,
-        b"reset              the panel after reset\n\
-        look S0 S1 ..      one look: a 16-bit sample for each row; bit c is column c, bit 12 the SF key\n\
-        write AA B0 B1 ..  a write access: bytes to the registers from address AA on\n\
-        read AA COUNT      a read access: COUNT bytes of the registers from address AA on\n\
-        held ROW COL       is this key held?\n\
-        irq                is the interrupt line asserted?\n\
-        show               the panel drawn; it ends with a line of one full stop\n\
-        help               this list; it ends with a line of one full stop\n\
-        Samples, addresses and bytes are hexadecimal; counts, rows and columns are decimal.\n\
-        The answer is the call's number, 0 where it was done, and what was asked for.\n\
-        .\n",
-    )
+    let waiting = codes(grid(s.page, &held, &run, m.size), queue, m.count);
+    let mut next = s;
+    next.page = level(settings(masked(raw(waiting, m), m), m), flags::line(m));
+    next
 }

@@ -1,5 +1,6 @@
 // Answers written out in pieces: the page is written out when it has no room for what comes next, and when all that has arrived is answered.
 use libc::STDOUT_FILENO;
+use text::lines::NEWLINE;
 use text::page;
 use text::page::Page;
 ghost use Prim.Native.Nat.{_≤_, _+_};
@@ -33,6 +34,16 @@ fn room(p: Page, n: usize) -> Page
         return p;
     }
     written(p)
+}
+
+// Writes a byte.
+pub(crate) fn put(p: Page, byte: u8) -> Page {
+    page::put(room(p, 1), byte)
+}
+
+// Ends the line.
+pub(crate) fn end(p: Page) -> Page {
+    put(p, NEWLINE)
 }
 
 // Writes a text.

@@ -1,91 +1,113 @@
 // The commands, done and answered.
 use crate::commands;
 use crate::commands::Heard;
+use crate::commands::Kind;
 use crate::commands::Pair;
 use crate::draw;
+use crate::fingers;
+use crate::help;
+use crate::refusal::refused;
+use crate::refusal::too_long;
+use crate::refusal::unknown;
 use crate::reply::bytes_read;
 use crate::reply::question;
-use crate::reply::refused;
 use crate::reply::told;
 use crate::session::Session;
+use calls::Done;
 use keys::Col;
 use keys::Row;
-use text::number::Fault;
+use text::lines::without_return;
+use text::list::as_bytes;
+use text::list::as_samples;
+use text::page::least;
 use text::word::is_same;
 use text::word::word_from;
-ghost use Prim.Native.Nat.{_≤_};
-ghost use lib.ListN.{length};
+
+// The bytes of the longest line.
+pub(crate) const LONGEST: usize = 16384;
 
 const COMMENT: u8 = b'#';
 
-// Numbers as bytes.
-fn narrow(values: &[u16], bytes: &mut [u8])
-    requires { ⌜ length (now values) ≤ length (now bytes) ⌝ }
-{
-    let mut i: usize = 0;
-    while i < values.len() {
-        bytes[i] = (values[i] % 256) as u8;
-        i = i + 1;
+// After a look: if it was done, the contacts are as its samples.
+fn looked(s: Session, samples: [u16; 9], done: Done) -> Session {
+    if done.number != numbers::DONE {
+        return told(s, done);
     }
+    let mut next = s;
+    next.contacts = [
+        samples[0],
+        samples[1],
+        samples[2],
+        samples[3],
+        samples[4],
+        samples[5],
+        samples[6],
+        samples[7],
+    ];
+    told(next, done)
+}
+
+// A look with the samples of a list. More than eight are declined, however many they are.
+fn look_list(s: Session, list: &[u32]) -> Session {
+    let mut samples = [0u16; 9];
+    let n = as_samples(list, &mut samples);
+    looked(s, samples, calls::look(s.panel, &samples[0..n]))
 }
 
 // `look S0 S1 ..`
-fn look(s: Session, rest: &[u8], values: &mut [u16]) -> Session {
-    let listed = commands::list_of(rest, 0xFFFF, values);
+fn look(s: Session, rest: &[u8], list: &mut [u32]) -> Session {
+    let listed = commands::list_of(rest, Kind::Sample, list);
     let count = listed.count;
     let heard = listed.heard;
     match heard {
-        Heard::Wrong(fault) => refused(s, fault),
-        Heard::Well => told(s, calls::look(s.panel, &values[0..count])),
+        Heard::Wrong(wrong) => refused(s, rest, wrong, b"look S0 S1 .."),
+        Heard::Well => look_list(s, &list[0..count]),
     }
 }
 
-// `write AA B0 B1 ..`
-fn write(s: Session, rest: &[u8], values: &mut [u16], bytes: &mut [u8]) -> Session
-    requires { ⌜ length (now values) ≤ length (now bytes) ⌝ }
-{
-    let listed = commands::list_of(rest, 0xFF, values);
-    let count = listed.count;
-    let heard = listed.heard;
-    match heard {
-        Heard::Wrong(fault) => refused(s, fault),
-        Heard::Well => write_list(s, &values[0..count], bytes),
-    }
-}
-
-// A write of the bytes of a list, to the address in front of them.
-fn write_list(s: Session, values: &[u16], bytes: &mut [u8]) -> Session
-    requires { ⌜ length (now values) ≤ length (now bytes) ⌝ }
-{
-    let n = values.len();
+// A write of the bytes of a list, to the address in front of them. More than 32 are declined, however many they are.
+fn write_list(s: Session, rest: &[u8], list: &[u32]) -> Session {
+    let mut bytes = [0u8; 34];
+    let n = as_bytes(list, &mut bytes);
     if n < 1 {
-        return refused(s, Fault::TooFew);
+        return refused(s, rest, commands::too_few(), b"write AA B0 B1 ..");
     }
-    narrow(values, bytes);
     told(s, calls::write(s.panel, bytes[0], &bytes[1..n]))
 }
 
-// `read AA COUNT`
-fn read(s: Session, rest: &[u8], bytes: &mut [u8]) -> Session {
-    let pair = commands::pair_of(rest, 16, 1024);
-    match pair {
-        Pair::Wrong(fault) => refused(s, fault),
-        Pair::Numbers(first, count) => read_bytes(s, (first % 256) as u8, count as usize, bytes),
+// `write AA B0 B1 ..`
+fn write(s: Session, rest: &[u8], list: &mut [u32]) -> Session {
+    let listed = commands::list_of(rest, Kind::Byte, list);
+    let count = listed.count;
+    let heard = listed.heard;
+    match heard {
+        Heard::Wrong(wrong) => refused(s, rest, wrong, b"write AA B0 B1 .."),
+        Heard::Well => write_list(s, rest, &list[0..count]),
     }
 }
 
-// A read of so many bytes from an address on.
-fn read_bytes(s: Session, first: u8, count: usize, bytes: &mut [u8]) -> Session {
-    let n = text::page::least(count, bytes.len());
-    let done = calls::read(s.panel, first, &mut bytes[0..n]);
+// A read of so many bytes from an address on. More than 32 are declined, however many they are.
+fn read_bytes(s: Session, first: u32, count: u32, bytes: &mut [u8]) -> Session {
+    let n = least(count as usize, bytes.len());
+    let done = calls::read(s.panel, (first % 256) as u8, &mut bytes[0..n]);
     bytes_read(s, done, &bytes[0..n])
+}
+
+// `read AA COUNT`
+fn read(s: Session, rest: &[u8]) -> Session {
+    let pair = commands::pair_of(rest, Kind::Byte, Kind::Count);
+    let mut bytes = [0u8; 33];
+    match pair {
+        Pair::Wrong(wrong) => refused(s, rest, wrong, b"read AA COUNT"),
+        Pair::Numbers(first, count) => read_bytes(s, first, count, &mut bytes),
+    }
 }
 
 // `held ROW COL`
 fn held(s: Session, rest: &[u8]) -> Session {
-    let pair = commands::pair_of(rest, 10, 0xFF);
+    let pair = commands::pair_of(rest, Kind::Place, Kind::Place);
     match pair {
-        Pair::Wrong(fault) => refused(s, fault),
+        Pair::Wrong(wrong) => refused(s, rest, wrong, b"held ROW COL"),
         Pair::Numbers(row, col) => {
             question(
                 s,
@@ -98,7 +120,7 @@ fn held(s: Session, rest: &[u8]) -> Session {
 // `irq`
 fn irq(s: Session, rest: &[u8]) -> Session {
     if !commands::is_empty(rest) {
-        return refused(s, Fault::TooMany);
+        return refused(s, rest, commands::too_many(), b"irq");
     }
     question(s, calls::interrupt(s.panel))
 }
@@ -106,7 +128,7 @@ fn irq(s: Session, rest: &[u8]) -> Session {
 // `reset`
 fn reset(s: Session, rest: &[u8]) -> Session {
     if !commands::is_empty(rest) {
-        return refused(s, Fault::TooMany);
+        return refused(s, rest, commands::too_many(), b"reset");
     }
     told(s, calls::reset())
 }
@@ -114,36 +136,62 @@ fn reset(s: Session, rest: &[u8]) -> Session {
 // `show`
 fn show(s: Session, rest: &[u8]) -> Session {
     if !commands::is_empty(rest) {
-        return refused(s, Fault::TooMany);
+        return refused(s, rest, commands::too_many(), b"show");
     }
-    let mut next = s;
-    next.page = draw::show(s.page, s.panel);
-    next
+    draw::show(s)
 }
 
-// `help`
-fn help(s: Session, rest: &[u8]) -> Session {
+// The word behind `help`: it is the last, and there is one list for it.
+fn help_with(s: Session, rest: &[u8], word: &[u8], last: bool) -> Session {
+    if last & is_same(word, b"numbers") {
+        return help::numbers(s);
+    }
+    refused(s, rest, commands::too_many(), b"help, help numbers")
+}
+
+// `help`, `help numbers`
+fn helped(s: Session, rest: &[u8]) -> Session {
+    let w = word_from(rest, 0);
+    let start = w.start;
+    let end = w.end;
+    if start == end {
+        return help::commands(s);
+    }
+    let n = rest.len();
+    help_with(
+        s,
+        rest,
+        &rest[start..end],
+        commands::is_empty(&rest[end..n]),
+    )
+}
+
+// `quit`
+fn quit(s: Session, rest: &[u8]) -> Session {
     if !commands::is_empty(rest) {
-        return refused(s, Fault::TooMany);
+        return refused(s, rest, commands::too_many(), b"quit");
     }
     let mut next = s;
-    next.page = draw::help(s.page);
+    next.on = false;
     next
 }
 
-// The commands that answer with a text; no other word is a command.
-fn with_text(s: Session, word: &[u8], rest: &[u8]) -> Session {
+// The commands of the session; no other word is a command.
+fn of_session(s: Session, word: &[u8], rest: &[u8]) -> Session {
     if is_same(word, b"show") {
         return show(s, rest);
     }
     if is_same(word, b"help") {
-        return help(s, rest);
+        return helped(s, rest);
     }
-    refused(s, Fault::Unknown)
+    if is_same(word, b"quit") {
+        return quit(s, rest);
+    }
+    unknown(s, word)
 }
 
-// The commands that need no list.
-fn listless(s: Session, word: &[u8], rest: &[u8]) -> Session {
+// The questions, and reset.
+fn of_panel(s: Session, word: &[u8], rest: &[u8]) -> Session {
     if is_same(word, b"held") {
         return held(s, rest);
     }
@@ -153,36 +201,40 @@ fn listless(s: Session, word: &[u8], rest: &[u8]) -> Session {
     if is_same(word, b"reset") {
         return reset(s, rest);
     }
-    with_text(s, word, rest)
+    of_session(s, word, rest)
 }
 
-// Does the command that a word names, with the words behind it, and answers it. Each group of commands has a function, since the check of many arms in one grows with their square.
-fn named(
-    s: Session,
-    word: &[u8],
-    rest: &[u8],
-    values: &mut [u16; 8192],
-    bytes: &mut [u8; 8192],
-) -> Session {
+// The commands of fingers.
+fn of_fingers(s: Session, word: &[u8], rest: &[u8]) -> Session {
+    if is_same(word, b"press") {
+        return fingers::press(s, rest);
+    }
+    if is_same(word, b"release") {
+        return fingers::release(s, rest);
+    }
+    if is_same(word, b"wait") {
+        return fingers::wait(s, rest);
+    }
+    of_panel(s, word, rest)
+}
+
+// Does the command that a word names, with the words behind it, and answers it.
+// Each group of commands has a function, since the check of many arms in one grows with their square.
+fn named(s: Session, word: &[u8], rest: &[u8], list: &mut [u32]) -> Session {
     if is_same(word, b"look") {
-        return look(s, rest, values);
+        return look(s, rest, list);
     }
     if is_same(word, b"read") {
-        return read(s, rest, bytes);
+        return read(s, rest);
     }
     if is_same(word, b"write") {
-        return write(s, rest, values, bytes);
+        return write(s, rest, list);
     }
-    listless(s, word, rest)
+    of_fingers(s, word, rest)
 }
 
-// Does the command of a line and answers it; its numbers go to the lists. A blank line and a comment ask for nothing.
-pub(crate) fn perform(
-    s: Session,
-    line: &[u8],
-    values: &mut [u16; 8192],
-    bytes: &mut [u8; 8192],
-) -> Session {
+// Does the command of a line that is not too long. A blank line and a comment ask for nothing.
+fn asked(s: Session, line: &[u8], list: &mut [u32]) -> Session {
     let w = word_from(line, 0);
     let start = w.start;
     let end = w.end;
@@ -193,5 +245,14 @@ pub(crate) fn perform(
         return s;
     }
     let n = line.len();
-    named(s, &line[start..end], &line[end..n], values, bytes)
+    named(s, &line[start..end], &line[end..n], list)
+}
+
+// Does what a line asks for and answers it; its numbers go to the list.
+pub(crate) fn perform(s: Session, line: &[u8], list: &mut [u32]) -> Session {
+    if LONGEST < line.len() {
+        return too_long(s);
+    }
+    let n = without_return(line);
+    asked(s, &line[0..n], list)
 }

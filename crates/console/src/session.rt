@@ -4,9 +4,11 @@ use text::page::Page;
 
 pub(crate) struct Session {
     pub panel: Module,
+    // the contacts, as fingers hold them: a sample for each row
+    pub contacts: [u16; 8],
     // the answers that are not written out yet
     pub page: Page,
-    // the bytes held of the line that has not ended, or TOO_LONG
+    // where the line that has not ended begins in the input, and then how many bytes of it are kept
     pub held: usize,
     // is there more to come, and could every answer be written?
     pub on: bool,

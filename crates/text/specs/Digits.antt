@@ -1,10 +1,10 @@
 -- The number that a word's digits tell, judged by its value; and the digits that tell a number.
 --
---    digit b              the value of the digit b, in either case; 16 where it is none
+--    digit b              the value of the digit b, in either case; 16 if it is none
 --    digits base w        every byte of the word w is a digit of the base
 --    told base v w        the number that the digits w tell, behind digits that told v
 --    numberOf base most w    the number of a word, which is at most `most`, or what is wrong with it
---    lastDigits k n       the last k digits of n in base 10, or all where it has fewer
+--    lastDigits k n       the last k digits of n in base 10, or all if it has fewer
 --    decimal n            the digits of n in base 10: ten are enough below 2^32
 use Prim.Native.Nat.{ℕ, zero, suc, _+_, _-_, _*_, _/_, _%_}
 use mathlib.Core.Bool.{Bool, _&&_, not}

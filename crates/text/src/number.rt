@@ -19,7 +19,7 @@ pub enum Number {
     Wrong(Fault),
 }
 
-// A digit's value; 16 where it is none, in either base.
+// A digit's value; 16 if it is none, in either base.
 fn digit_of(byte: u8) -> usize
     ensures { λ r. ⌜ (r ≡ digit byte) × (r ≤ 16) ⌝ }
 {

@@ -2,9 +2,10 @@
 ghost use mathlib.Core.Path.{_≡_};
 ghost use Prim.Native.Nat.{_≤_, _+_};
 ghost use lib.ListN.{length, drop};
+ghost use lib.Dec.{eqb};
 ghost use Rattle.text.specs.Line.{blank, same, upTo, wordFrom};
 
-// A word's first place and the place after its last; the same where there is no word.
+// A word's first place and the place after its last; the same if there is no word.
 pub struct Word {
     pub start: usize,
     pub end: usize,
@@ -20,7 +21,7 @@ fn is_blank(byte: u8) -> bool
     byte == b'\t'
 }
 
-// The first place, from one on, that holds a blank or none; the line's end where there is no such place.
+// The first place, from one on, that holds a blank or none; the line's end if there is no such place.
 fn first(line: &[u8], from: usize, blank: bool) -> usize
     requires { ⌜ from ≤ length (now line) ⌝ }
     ensures { λ r. ⌜ (r ≡ from + upTo blank (drop from (now (line .entry)))) × (from ≤ r) × (r ≤ length (now (line .entry))) ⌝ }
@@ -63,4 +64,13 @@ pub fn is_same(word: &[u8], name: &[u8]) -> bool
         i = i + 1;
     }
     true
+}
+
+// Is there no word, from a place on?
+pub fn is_end(line: &[u8], from: usize) -> bool
+    requires { ⌜ from ≤ length (now line) ⌝ }
+    ensures { λ r. ⌜ r ≡ eqb (wordFrom (now (line .entry)) from .start) (wordFrom (now (line .entry)) from .end) ⌝ }
+{
+    let w = word_from(line, from);
+    w.start == w.end
 }

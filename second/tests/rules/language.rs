@@ -66,6 +66,17 @@ fn numbers_that_are_too_large() {
         "held 0 256",
         "held 4294967296 0",
         "held 0 18446744073709551616",
+        "press 8 0",
+        "press 0 13",
+        "press 256 0",
+        "press 0 4294967296",
+        "release 8 SF",
+        "release 0 18446744073709551616",
+        "release 18446744073709551616 0",
+        "wait 65536",
+        "wait 00000000000000000000000065536",
+        "wait 4294967296",
+        "wait 18446744073709551616",
         "look 10000 0 0 0 0 0 0 0",
         "look 0 0 0 0 0 0 0 10000000000000000",
     ] {
@@ -100,6 +111,35 @@ fn digits_that_are_none() {
 }
 
 #[test]
+fn digits_that_are_none_of_fingers_and_waits() {
+    for line in [
+        "held 0 SF",
+        "held SF 0",
+        "press A 0",
+        "press 0 C",
+        "press 0 c",
+        "press 0 S",
+        "press 0 F",
+        "press 0 SFx",
+        "press 0 SF12",
+        "press 0 0SF",
+        "press SF 0",
+        "press -0 0",
+        "press 0 0x1",
+        "release 0 B",
+        "release sf 0",
+        "release 0 ssf",
+        "wait A",
+        "wait SF",
+        "wait -1",
+        "wait +1",
+        "wait 1.0",
+    ] {
+        assert!(refused(line.as_bytes()), "{line}");
+    }
+}
+
+#[test]
 fn words_too_many_and_too_few() {
     for line in [
         "reset 0",
@@ -112,8 +152,26 @@ fn words_too_many_and_too_few() {
         "held",
         "held 1",
         "held 1 1 1",
+        "press",
+        "press 0",
+        "press SF",
+        "press 0 0 0",
+        "release",
+        "release 0",
+        "release 0 0 0",
+        "wait",
+        "wait 1 1",
+        "quit now",
+        "quit 0",
+        "quit # at once",
         "show all",
+        "show numbers",
         "help me",
+        "help look",
+        "help quit",
+        "help number",
+        "help NUMBERS",
+        "help numbers numbers",
     ] {
         assert!(refused(line.as_bytes()), "{line}");
     }
@@ -122,6 +180,10 @@ fn words_too_many_and_too_few() {
 #[test]
 fn unknown_words() {
     for line in ["foo", "RESET", "Irq", "LOOK 0", "look0", "res", "resets", "?", ".", "0", "irq;"] {
+        assert!(refused(line.as_bytes()), "{line}");
+    }
+    for line in ["Press 0 0", "RELEASE 0 0", "press0 0", "Wait 1", "waits 1", "QUIT", "qui", "exit"]
+    {
         assert!(refused(line.as_bytes()), "{line}");
     }
 }
@@ -133,16 +195,36 @@ fn a_refused_line_does_nothing() {
         write 02 01 -> 0
         look 1 0 0 0 0 0 0 0 -> 0
         read 10 1 1 -> ? too many words
-        read 10 1G -> ? not a digit
-        write 02 05 100 -> ? number too large
-        write 03 22 x -> ? not a digit
-        look 0 0 0 0 0 0 0 10000 -> ? number too large
+        read 10 1G -> ? not a decimal number: 1G
+        write 02 05 100 -> ? number too large: 100
+        write 03 22 x -> ? not a hexadecimal number: x
+        look 0 0 0 0 0 0 0 10000 -> ? number too large: 10000
         reset now -> ? too many words
         held 0 0 -> 0 yes
         read 02 2 -> 0 01 22
         read 10 2 -> 0 00 7F
         ",
     );
+}
+
+#[test]
+fn what_is_wrong_and_the_word() {
+    session(
+        "
+        rest -> ? unknown command: rest
+        held C 0 -> ? not a decimal number: C
+        look 0x1 -> ? not a hexadecimal number: 0x1
+        look 10000 -> ? number too large: 10000
+        press 8 0 -> ? not a row: 8
+        release 0 13 -> ? not a column: 13
+        read 10 -> ? too few words
+        irq 0 -> ? too many words
+        abcdefghijklmnopqrst -> ? unknown command: abcdefghijklmnopqrst
+        abcdefghijklmnopqrstu -> ? unknown command: abcdefghijklmnopqrst..
+        ",
+    );
+    let answer = Console::new().answer(b"a\0b\xC3\xA9\x7F~");
+    assert_eq!(answer.unwrap(), "? unknown command: a?b???~");
 }
 
 #[test]
@@ -204,6 +286,53 @@ fn a_final_line_without_a_newline() {
 #[test]
 fn show_and_help_have_no_counterpart() {
     assert_eq!(output(b"show\nhelp\nirq\n"), ".\n.\n0 yes\n");
+    assert_eq!(output(b"help numbers\n help\tnumbers \r\nirq\n"), ".\n.\n0 yes\n");
+}
+
+#[test]
+fn what_stands_after_quit_is_not_read() {
+    for quit in ["quit", " quit", "quit \t", "quit\r", "\t quit \r"] {
+        let input = format!("irq\n{quit}\nirq\nfoo\nread 10 1");
+        assert_eq!(output(input.as_bytes()), "0 yes\n", "{quit:?}");
+        assert_eq!(output(format!("irq\n{quit}").as_bytes()), "0 yes\n", "{quit:?}");
+    }
+    for line in ["quit\r\r", "quit now", "quit quit", "#quit", "Quit", "quitt"] {
+        let input = format!("{line}\nread 10 1\n");
+        assert!(output(input.as_bytes()).ends_with("0 7F\n"), "{line:?}");
+    }
+}
+
+#[test]
+fn the_longest_quit() {
+    let fits = format!("quit{}\nirq\n", " ".repeat(LONGEST - 4));
+    let over = format!("quit{}\nirq\n", " ".repeat(LONGEST - 3));
+    assert_eq!(output(fits.as_bytes()), "");
+    assert_eq!(output(over.as_bytes()), "? line too long\n0 yes\n");
+}
+
+#[test]
+fn the_status_is_one_after_a_question_mark() {
+    for (script, status) in [
+        ("irq", 0),
+        ("", 0),
+        ("# foo", 0),
+        ("held 8 0", 0),
+        ("look", 0),
+        ("foo", 1),
+        ("press 8 0", 1),
+        ("quit now", 1),
+        ("foo\nirq\nreset", 1),
+        ("irq\nquit\nfoo", 0),
+        ("foo\nquit", 1),
+    ] {
+        let mut console = Console::new();
+        console.feed(script.as_bytes(), &mut Vec::new());
+        console.finish(&mut Vec::new());
+        assert_eq!(console.status(), status, "{script}");
+    }
+    let mut console = Console::new();
+    console.answer(&[b' '; LONGEST + 1]);
+    assert_eq!(console.status(), 1);
 }
 
 #[test]

@@ -1,6 +1,7 @@
 //! The rules through the console's language, with every expected answer written out.
 
 mod accesses;
+mod fingers;
 mod language;
 mod readings;
 mod sessions;

@@ -1,34 +1,44 @@
--- `feed` is safe: each turn takes in one byte or more.
+-- `feed` meets its contract: each turn passes over one line.
 -- Assumes nothing.
 use Prim.Native.Nat.{_≤_, _-_}
+use mathlib.Core.Path.{_≡_}
 use lib.ListN.{length}
 use borrow.Author.Needs.{needs}
 use Rattle.console.proofs.feed.Statement.{statement}
 use Rattle.console.proofs.feed.Tie as tie
 
 abbrev Inv-loop : tie.InvT-loop
-Inv-loop input line₀ values₀ bytes₀ session₀ i₀ line values bytes session i = i ≤ length input
+Inv-loop input list₀ next₀ i₀ end₀ list next i end = (i ≤ end) × (end ≤ length input) × (8192 ≡ length list)
 
 abbrev μ-loop : tie.MeasureT-loop
-μ-loop input line₀ values₀ bytes₀ session₀ i₀ line values bytes session i = length input - i
+μ-loop input list₀ next₀ i₀ end₀ list next i end = length input - i
+
+newline-from-requires : tie.Need-newline-from-requires Inv-loop μ-loop
+newline-from-requires c κs = search needs
 
 loop-holds : tie.Need-loop-holds Inv-loop μ-loop
 loop-holds c = search needs
 
-line-end-requires : tie.Need-line-end-requires Inv-loop μ-loop
-line-end-requires c κs = search needs
+sub-perform : tie.Need-sub-perform Inv-loop μ-loop
+sub-perform c = search needs
 
-sub-take-in : tie.Need-sub-take-in Inv-loop μ-loop
-sub-take-in c = search needs
+part-perform-start : tie.Need-part-perform-start Inv-loop μ-loop
+part-perform-start c = search needs
 
-part-take-in-start : tie.Need-part-take-in-start Inv-loop μ-loop
-part-take-in-start c = search needs
+part-perform-end : tie.Need-part-perform-end Inv-loop μ-loop
+part-perform-end c = search needs
 
-part-take-in-end : tie.Need-part-take-in-end Inv-loop μ-loop
-part-take-in-end c = search needs
+slice-aggregate-perform : tie.Need-slice-aggregate-perform Inv-loop μ-loop
+slice-aggregate-perform c = search needs
 
-take-in-requires : tie.Need-take-in-requires Inv-loop μ-loop
-take-in-requires c κs = search needs
+perform-requires : tie.Need-perform-requires Inv-loop μ-loop
+perform-requires c κs = search needs
+
+add-i : tie.Need-add-i Inv-loop μ-loop
+add-i c = search needs
+
+newline-from-requires-2 : tie.Need-newline-from-requires-2 Inv-loop μ-loop
+newline-from-requires-2 c κs = search needs
 
 loop-less : tie.Need-loop-less Inv-loop μ-loop
 loop-less c = search needs
@@ -39,18 +49,25 @@ loop-again c = search needs
 returns : tie.Need-returns Inv-loop μ-loop
 returns c = search needs
 
+returns-2 : tie.Need-returns-2 Inv-loop μ-loop
+returns-2 c = search needs
+
 pub feed-spec : {M : Type 1} → statement M
 feed-spec =
     tie.close
     (tie.spec
     Inv-loop
     μ-loop
+    newline-from-requires
     loop-holds
-    line-end-requires
-    sub-take-in
-    part-take-in-start
-    part-take-in-end
-    take-in-requires
+    sub-perform
+    part-perform-start
+    part-perform-end
+    slice-aggregate-perform
+    perform-requires
+    add-i
+    newline-from-requires-2
     loop-less
     loop-again
-    returns)
+    returns
+    returns-2)

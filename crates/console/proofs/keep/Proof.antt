@@ -1,4 +1,4 @@
--- `keep` is safe: the loop goes on to the end of the part.
+-- `keep` meets its contract: the loop goes on to the last byte that is kept.
 -- Assumes nothing.
 use Prim.Native.Nat.{_≤_, _-_}
 use mathlib.Core.Path.{_≡_}
@@ -8,34 +8,31 @@ use Rattle.console.proofs.keep.Statement.{statement}
 use Rattle.console.proofs.keep.Tie as tie
 
 abbrev Inv-loop : tie.InvT-loop
-Inv-loop line₀ held part at₀ i₀ line at i = (i ≤ length part) × (length line ≡ length line₀)
+Inv-loop input₀ from end n i₀ input i = (i ≤ n) × (length input ≡ length input₀)
 
 abbrev μ-loop : tie.MeasureT-loop
-μ-loop line₀ held part at₀ i₀ line at i = length part - i
+μ-loop input₀ from end n i₀ input i = n - i
+
+sub-least : tie.Need-sub-least Inv-loop μ-loop
+sub-least c = search needs
+
+add-least : tie.Need-add-least Inv-loop μ-loop
+add-least c = search needs
+
+least-requires : tie.Need-least-requires Inv-loop μ-loop
+least-requires c κs = search needs
 
 loop-holds : tie.Need-loop-holds Inv-loop μ-loop
 loop-holds c = search needs
 
-shared-slice-read-byte : tie.Need-shared-slice-read-byte Inv-loop μ-loop
-shared-slice-read-byte c = search needs
+add-input : tie.Need-add-input Inv-loop μ-loop
+add-input c = search needs
 
-same-length : tie.Need-same-length Inv-loop μ-loop
-same-length c = search needs
+slice-read-input : tie.Need-slice-read-input Inv-loop μ-loop
+slice-read-input c = search needs
 
-returns : tie.Need-returns Inv-loop μ-loop
-returns c = search needs
-
-same-length-2 : tie.Need-same-length-2 Inv-loop μ-loop
-same-length-2 c = search needs
-
-returns-2 : tie.Need-returns-2 Inv-loop μ-loop
-returns-2 c = search needs
-
-slice-write-line : tie.Need-slice-write-line Inv-loop μ-loop
-slice-write-line c = search needs
-
-add-at : tie.Need-add-at Inv-loop μ-loop
-add-at c = search needs
+slice-write-input : tie.Need-slice-write-input Inv-loop μ-loop
+slice-write-input c = search needs
 
 add-i : tie.Need-add-i Inv-loop μ-loop
 add-i c = search needs
@@ -46,11 +43,11 @@ loop-less c = search needs
 loop-again : tie.Need-loop-again Inv-loop μ-loop
 loop-again c = search needs
 
-same-length-3 : tie.Need-same-length-3 Inv-loop μ-loop
-same-length-3 c = search needs
+same-length : tie.Need-same-length Inv-loop μ-loop
+same-length c = search needs
 
-returns-3 : tie.Need-returns-3 Inv-loop μ-loop
-returns-3 c = search needs
+returns : tie.Need-returns Inv-loop μ-loop
+returns c = search needs
 
 pub keep-spec : {M : Type 1} → statement M
 keep-spec =
@@ -58,16 +55,15 @@ keep-spec =
     (tie.spec
     Inv-loop
     μ-loop
+    sub-least
+    add-least
+    least-requires
     loop-holds
-    shared-slice-read-byte
-    same-length
-    returns
-    same-length-2
-    returns-2
-    slice-write-line
-    add-at
+    add-input
+    slice-read-input
+    slice-write-input
     add-i
     loop-less
     loop-again
-    same-length-3
-    returns-3)
+    same-length
+    returns)

@@ -1,5 +1,6 @@
 -- `main` is safe: every turn is one less.
 -- Assumes nothing.
+use Prim.Native.Nat.{_≤_}
 use mathlib.Core.Path.{_≡_}
 use lib.ListN.{length}
 use borrow.Author.Needs.{needs}
@@ -7,10 +8,10 @@ use Rattle.console.proofs.main.Statement.{statement}
 use Rattle.console.proofs.main.Tie as tie
 
 abbrev Inv-loop : tie.InvT-loop
-Inv-loop input₀ line₀ values₀ bytes₀ s₀ turns₀ input line values bytes s turns = 65536 ≡ length input
+Inv-loop input₀ s₀ turns₀ input s turns = (65536 ≡ length input) × (s .held ≤ 16385)
 
 abbrev μ-loop : tie.MeasureT-loop
-μ-loop input₀ line₀ values₀ bytes₀ s₀ turns₀ input line values bytes s turns = turns
+μ-loop input₀ s₀ turns₀ input s turns = turns
 
 large-buffer-requires : tie.Need-large-buffer-requires Inv-loop μ-loop
 large-buffer-requires c κs = search needs

@@ -9,10 +9,10 @@ use Rattle.console.proofs.commands.list_of.Statement.{statement}
 use Rattle.console.proofs.commands.list_of.Tie as tie
 
 abbrev Inv-loop : tie.InvT-loop
-Inv-loop line most values₀ at₀ count₀ values at count = (at ≤ length line) × (count ≤ length values) × (length values ≡ length values₀)
+Inv-loop line kind numbers₀ at₀ count₀ numbers at count = (at ≤ length line) × (count ≤ length numbers) × (length numbers ≡ length numbers₀)
 
 abbrev μ-loop : tie.MeasureT-loop
-μ-loop line most values₀ at₀ count₀ values at count = length values - count
+μ-loop line kind numbers₀ at₀ count₀ numbers at count = length numbers - count
 
 loop-holds : tie.Need-loop-holds Inv-loop μ-loop
 loop-holds c = search needs
@@ -32,14 +32,11 @@ number-at-requires c κs = search needs
 enum-known-number : tie.Need-enum-known-number Inv-loop μ-loop
 enum-known-number c = search needs
 
-cast-values : tie.Need-cast-values Inv-loop μ-loop
-cast-values c = search needs
+mul-numbers : tie.Need-mul-numbers Inv-loop μ-loop
+mul-numbers c = search needs
 
-mul-values : tie.Need-mul-values Inv-loop μ-loop
-mul-values c = search needs
-
-slice-write-values : tie.Need-slice-write-values Inv-loop μ-loop
-slice-write-values c = search needs
+slice-write-numbers : tie.Need-slice-write-numbers Inv-loop μ-loop
+slice-write-numbers c = search needs
 
 add-count : tie.Need-add-count Inv-loop μ-loop
 add-count c = search needs
@@ -53,8 +50,11 @@ loop-again c = (search needs, simp length-set (omega arith), simp length-set (om
 enum-known-number-2 : tie.Need-enum-known-number-2 Inv-loop μ-loop
 enum-known-number-2 c = search needs
 
-wrong-requires : tie.Need-wrong-requires Inv-loop μ-loop
-wrong-requires c κs = search needs
+of-word-requires : tie.Need-of-word-requires Inv-loop μ-loop
+of-word-requires c κs = search needs
+
+unheard-requires : tie.Need-unheard-requires Inv-loop μ-loop
+unheard-requires c κs = search needs
 
 same-length-2 : tie.Need-same-length-2 Inv-loop μ-loop
 same-length-2 c = search needs
@@ -62,8 +62,11 @@ same-length-2 c = search needs
 returns-2 : tie.Need-returns-2 Inv-loop μ-loop
 returns-2 c = search needs
 
-wrong-requires-2 : tie.Need-wrong-requires-2 Inv-loop μ-loop
-wrong-requires-2 c κs = search needs
+too-many-requires : tie.Need-too-many-requires Inv-loop μ-loop
+too-many-requires c κs = search needs
+
+unheard-requires-2 : tie.Need-unheard-requires-2 Inv-loop μ-loop
+unheard-requires-2 c κs = search needs
 
 same-length-3 : tie.Need-same-length-3 Inv-loop μ-loop
 same-length-3 c = search needs
@@ -83,16 +86,17 @@ list-of-spec =
     returns
     number-at-requires
     enum-known-number
-    cast-values
-    mul-values
-    slice-write-values
+    mul-numbers
+    slice-write-numbers
     add-count
     loop-less
     loop-again
     enum-known-number-2
-    wrong-requires
+    of-word-requires
+    unheard-requires
     same-length-2
     returns-2
-    wrong-requires-2
+    too-many-requires
+    unheard-requires-2
     same-length-3
     returns-3)

@@ -6,10 +6,10 @@ use Rattle.console.proofs.draw.grid.Statement.{statement}
 use Rattle.console.proofs.draw.grid.Tie as tie
 
 abbrev Inv-loop : tie.InvT-loop
-Inv-loop held size rows cols next₀ r₀ next r = r ≤ rows
+Inv-loop held run size rows cols next₀ r₀ next r = r ≤ rows
 
 abbrev μ-loop : tie.MeasureT-loop
-μ-loop held size rows cols next₀ r₀ next r = rows - r
+μ-loop held run size rows cols next₀ r₀ next r = rows - r
 
 columns-requires : tie.Need-columns-requires Inv-loop μ-loop
 columns-requires c κs = search needs

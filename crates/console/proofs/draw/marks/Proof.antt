@@ -6,10 +6,10 @@ use Rattle.console.proofs.draw.marks.Statement.{statement}
 use Rattle.console.proofs.draw.marks.Tie as tie
 
 abbrev Inv-loop : tie.InvT-loop
-Inv-loop held row cols next₀ c₀ next c = c ≤ cols
+Inv-loop held run row cols next₀ c₀ next c = c ≤ cols
 
 abbrev μ-loop : tie.MeasureT-loop
-μ-loop held row cols next₀ c₀ next c = cols - c
+μ-loop held run row cols next₀ c₀ next c = cols - c
 
 loop-holds : tie.Need-loop-holds Inv-loop μ-loop
 loop-holds c = search needs

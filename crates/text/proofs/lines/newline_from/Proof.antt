@@ -1,10 +1,10 @@
--- `line_end` meets its contract: the loop goes on to the input's end.
+-- `lines::newline_from` meets its contract: the loop goes on to the input's end.
 -- Assumes nothing.
 use Prim.Native.Nat.{_≤_, _-_}
 use lib.ListN.{length}
 use borrow.Author.Needs.{needs}
-use Rattle.console.proofs.line_end.Statement.{statement}
-use Rattle.console.proofs.line_end.Tie as tie
+use Rattle.text.proofs.lines.newline_from.Statement.{statement}
+use Rattle.text.proofs.lines.newline_from.Tie as tie
 
 abbrev Inv-loop : tie.InvT-loop
 Inv-loop input from i₀ i = (from ≤ i) × (i ≤ length input)
@@ -17,9 +17,6 @@ loop-holds c = search needs
 
 shared-slice-read-if1 : tie.Need-shared-slice-read-if1 Inv-loop μ-loop
 shared-slice-read-if1 c = search needs
-
-add-result : tie.Need-add-result Inv-loop μ-loop
-add-result c = search needs
 
 returns : tie.Need-returns Inv-loop μ-loop
 returns c = search needs
@@ -36,15 +33,14 @@ loop-again c = search needs
 returns-2 : tie.Need-returns-2 Inv-loop μ-loop
 returns-2 c = search needs
 
-pub line-end-spec : {M : Type 1} → statement M
-line-end-spec =
+pub newline-from-spec : {M : Type 1} → statement M
+newline-from-spec =
     tie.close
     (tie.spec
     Inv-loop
     μ-loop
     loop-holds
     shared-slice-read-if1
-    add-result
     returns
     add-i
     loop-less

@@ -1,17 +1,20 @@
--- `perform::narrow` is safe: the loop goes on to the last number.
+-- `list::as_bytes` meets its contract: the loop goes on to the last byte.
 -- Assumes nothing.
 use Prim.Native.Nat.{_≤_, _-_}
 use mathlib.Core.Path.{_≡_}
 use lib.ListN.{length}
 use borrow.Author.Needs.{needs}
-use Rattle.console.proofs.perform.narrow.Statement.{statement}
-use Rattle.console.proofs.perform.narrow.Tie as tie
+use Rattle.text.proofs.list.as_bytes.Statement.{statement}
+use Rattle.text.proofs.list.as_bytes.Tie as tie
 
 abbrev Inv-loop : tie.InvT-loop
-Inv-loop values bytes₀ i₀ bytes i = (i ≤ length values) × (length bytes ≡ length bytes₀)
+Inv-loop numbers bytes₀ n i₀ bytes i = (i ≤ n) × (length bytes ≡ length bytes₀)
 
 abbrev μ-loop : tie.MeasureT-loop
-μ-loop values bytes₀ i₀ bytes i = length values - i
+μ-loop numbers bytes₀ n i₀ bytes i = n - i
+
+least-requires : tie.Need-least-requires Inv-loop μ-loop
+least-requires c κs = search needs
 
 loop-holds : tie.Need-loop-holds Inv-loop μ-loop
 loop-holds c = search needs
@@ -43,12 +46,13 @@ same-length c = search needs
 returns : tie.Need-returns Inv-loop μ-loop
 returns c = search needs
 
-pub narrow-spec : {M : Type 1} → statement M
-narrow-spec =
+pub as-bytes-spec : {M : Type 1} → statement M
+as-bytes-spec =
     tie.close
     (tie.spec
     Inv-loop
     μ-loop
+    least-requires
     loop-holds
     mul-bytes
     shared-slice-read-bytes

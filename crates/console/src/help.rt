@@ -1,0 +1,48 @@
+// The lists of the commands and of the numbers; their last line is a full stop.
+use crate::out;
+use crate::session::Session;
+
+// The commands.
+pub(crate) fn commands(s: Session) -> Session {
+    let mut next = s;
+    next.page = out::text(
+        s.page,
+        b"reset              the panel after reset; the contacts stay as they are\n\
+        look S0 S1 ..      one look: a 16-bit sample for each row; bit c is column c, bit 12 the SF key\n\
+        press ROW COL      a finger closes this contact, for as many looks as make the panel believe it\n\
+        release ROW COL    the finger opens it, for as many looks\n\
+        wait N             N looks with the contacts as they are\n\
+        write AA B0 B1 ..  a write access: bytes to the registers from address AA on\n\
+        read AA COUNT      a read access: COUNT bytes of the registers from address AA on\n\
+        held ROW COL       is this key held?\n\
+        irq                is the interrupt line asserted?\n\
+        show               the panel drawn: # held, . open, + and - while the contact settles\n\
+        help               this list; help numbers lists what a call can answer\n\
+        quit               ends the input\n\
+        Samples, addresses and bytes are hexadecimal; counts, rows and columns are decimal; COL is 0 to 11, 12 or SF.\n\
+        The answer is the call's number, 0 if it was done, and what was asked for.\n\
+        .\n",
+    );
+    next
+}
+
+// The numbers.
+pub(crate) fn numbers(s: Session) -> Session {
+    let mut next = s;
+    next.page = out::text(
+        s.page,
+        b"A call answers with a number: 0 if it was done. Any other declines it, and nothing is altered.\n\
+        0  done\n\
+        1  look: the list isn't eight samples\n\
+        2  look: some sample has bit 13, 14 or 15 set\n\
+        3  access: no bytes\n\
+        4  access: more than 32 bytes\n\
+        5  access: some address of the run is unknown, or can't be read or written as asked\n\
+        6  write: a byte for KBDSIZE isn't acceptable\n\
+        7  held question: row above 7 or column above 12\n\
+        8  all but reset: the panel's state is unsound; never after a reset\n\
+        9  look: a change falls on a key out of the size; never of a sound state\n\
+        .\n",
+    );
+    next
+}

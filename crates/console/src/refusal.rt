@@ -1,0 +1,145 @@
+// The lines that tell what is wrong: the word, and what was wanted of it.
+use crate::commands::Kind;
+use crate::commands::Wrong;
+use crate::out;
+use crate::session::Session;
+use text::number::Fault;
+use text::page::Page;
+use text::page::least;
+
+// How much is shown of a word.
+const SHOWN: usize = 20;
+
+// A byte as it is shown; a question mark if it is no printing ASCII.
+fn shown(byte: u8) -> u8 {
+    if byte < 33 {
+        return b'?';
+    }
+    if 126 < byte {
+        return b'?';
+    }
+    byte
+}
+
+// The first bytes of a word.
+fn beginning(p: Page, word: &[u8]) -> Page {
+    let n = least(word.len(), SHOWN);
+    let mut next = p;
+    let mut i: usize = 0;
+    while i < n {
+        next = out::put(next, shown(word[i]));
+        i = i + 1;
+    }
+    next
+}
+
+// A word as it is shown.
+fn quoted(p: Page, word: &[u8]) -> Page {
+    let page = beginning(p, word);
+    if SHOWN < word.len() {
+        return out::text(page, b"..");
+    }
+    page
+}
+
+// The word of a line that stands at these places.
+fn word_at(p: Page, line: &[u8], start: usize, end: usize) -> Page {
+    let to = least(end, line.len());
+    let from = least(start, to);
+    quoted(p, &line[from..to])
+}
+
+// What a word is not, if some digit is none.
+fn not_a_number(p: Page, kind: Kind) -> Page {
+    match kind {
+        Kind::Sample => out::text(p, b"? not a hexadecimal number: "),
+        Kind::Byte => out::text(p, b"? not a hexadecimal number: "),
+        _ => out::text(p, b"? not a decimal number: "),
+    }
+}
+
+// What was wanted of such a word.
+fn digits_wanted(p: Page, kind: Kind) -> Page {
+    match kind {
+        Kind::Sample => out::text(p, b" (samples are hexadecimal)\n"),
+        Kind::Byte => out::text(p, b" (addresses and bytes are hexadecimal)\n"),
+        Kind::Count => out::text(p, b" (counts are decimal)\n"),
+        Kind::Looks => out::text(p, b" (counts are decimal)\n"),
+        Kind::Col => out::text(p, b" (columns are 0 to 12, or SF)\n"),
+        _ => out::text(p, b" (rows and columns are decimal)\n"),
+    }
+}
+
+// What a number is not, if it is too large.
+fn not_in_range(p: Page, kind: Kind) -> Page {
+    match kind {
+        Kind::Row => out::text(p, b"? not a row: "),
+        Kind::Col => out::text(p, b"? not a column: "),
+        _ => out::text(p, b"? number too large: "),
+    }
+}
+
+// What was wanted of such a number.
+fn range_wanted(p: Page, kind: Kind) -> Page {
+    match kind {
+        Kind::Sample => out::text(p, b" (a sample is at most FFFF)\n"),
+        Kind::Byte => out::text(p, b" (an address or a byte is at most FF)\n"),
+        Kind::Count => out::text(p, b" (1024 at most)\n"),
+        Kind::Place => out::text(p, b" (255 at most)\n"),
+        Kind::Row => out::text(p, b" (rows are 0 to 7)\n"),
+        Kind::Col => out::text(p, b" (columns are 0 to 12, or SF)\n"),
+        Kind::Looks => out::text(p, b" (65535 at most)\n"),
+    }
+}
+
+// A number of words that the command doesn't take.
+fn form_wanted(p: Page, form: &[u8]) -> Page {
+    out::text(out::text(out::text(p, b" ("), form), b")\n")
+}
+
+// A word with a digit that is none.
+fn no_digit(p: Page, line: &[u8], wrong: Wrong) -> Page {
+    let kind = wrong.kind;
+    let told = word_at(not_a_number(p, kind), line, wrong.start, wrong.end);
+    digits_wanted(told, kind)
+}
+
+// A number that is too large.
+fn too_large(p: Page, line: &[u8], wrong: Wrong) -> Page {
+    let kind = wrong.kind;
+    let told = word_at(not_in_range(p, kind), line, wrong.start, wrong.end);
+    range_wanted(told, kind)
+}
+
+// What is wrong with a line whose command has this form.
+fn refusal(p: Page, line: &[u8], wrong: Wrong, form: &[u8]) -> Page {
+    let fault = wrong.fault;
+    match fault {
+        Fault::NoDigit => no_digit(p, line, wrong),
+        Fault::TooLarge => too_large(p, line, wrong),
+        Fault::TooFew => form_wanted(out::text(p, b"? too few words"), form),
+        _ => form_wanted(out::text(p, b"? too many words"), form),
+    }
+}
+
+// A line with something wrong behind its command.
+pub(crate) fn refused(s: Session, line: &[u8], wrong: Wrong, form: &[u8]) -> Session {
+    let mut next = s;
+    next.page = refusal(s.page, line, wrong, form);
+    next
+}
+
+// A line whose first word is no command.
+pub(crate) fn unknown(s: Session, word: &[u8]) -> Session {
+    let mut next = s;
+    let page = quoted(out::text(s.page, b"? unknown command: "), word);
+    next.page = out::text(page, b" (help lists them)\n");
+    next
+}
+
+// A line that is too long.
+pub(crate) fn too_long(s: Session) -> Session {
+    let mut next = s;
+    next.page = out::text(s.page, b"? line too long (16384 bytes at most)\n");
+    next
+}
