@@ -9,7 +9,7 @@ mkdir "$work/bin" && cp tests/launcher/rt target/bin/console "$work/bin/" || fai
 clone() {
     rm -rf "$at"
     mkdir -p "$at/.ci"
-    cp -R panel tools crates crates.txt docs examples "$at/"
+    cp -R panel tools crates docs examples tests/launcher/crates.txt "$at/"
     cp .ci/toolchain "$at/.ci/"
     : >"$work/record"
 }

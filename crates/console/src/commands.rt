@@ -1,4 +1,6 @@
 // The words behind a command: no more words, one number, two numbers, a list of numbers.
+use answers::refusal::Kind;
+use answers::refusal::Wrong;
 use text::number::Fault;
 use text::number::Number;
 use text::number::number_of;
@@ -6,26 +8,6 @@ use text::word::is_end;
 use text::word::word_from;
 ghost use Prim.Native.Nat.{_≤_};
 ghost use lib.ListN.{length};
-
-// What is wanted of a word: a sample; an address or a byte; how many bytes to read; a row or a column that is asked for; the row and the column of a contact;
-// how many looks to make.
-pub(crate) enum Kind {
-    Sample,
-    Byte,
-    Count,
-    Place,
-    Row,
-    Col,
-    Looks,
-}
-
-// What is wrong, the word that is, by its places, and what was wanted of it.
-pub(crate) struct Wrong {
-    pub fault: Fault,
-    pub kind: Kind,
-    pub start: usize,
-    pub end: usize,
-}
 
 // Two numbers, or what is wrong.
 pub(crate) enum Pair {

@@ -1,12 +1,14 @@
 // Fingers: contacts that stay as they are, look after look.
-use crate::commands::Kind;
 use crate::commands::Pair;
 use crate::commands::pair_of;
 use crate::commands::pair_with;
-use crate::refusal::refused;
+use crate::reply::refused;
 use crate::reply::told;
 use crate::session::Session;
+use answers::refusal::Kind;
 use calls::Done;
+use keys::Col;
+use keys::Row;
 
 // The weight of each bit of a sample.
 const WEIGHTS: [u16; 16] = [
@@ -29,9 +31,10 @@ const WEIGHTS: [u16; 16] = [
 ];
 
 // A sample with one contact closed or open.
-fn with_contact(sample: u16, col: u32, closed: bool) -> u16 {
+fn with_contact(sample: u16, col: Col, closed: bool) -> u16 {
+    let c = col.0;
     let weights = WEIGHTS;
-    let weight = weights[(col % 16) as usize];
+    let weight = weights[(c % 16) as usize];
     if closed {
         return sample | weight;
     }
@@ -39,8 +42,8 @@ fn with_contact(sample: u16, col: u32, closed: bool) -> u16 {
 }
 
 // The session with one contact turned.
-fn turned(s: Session, row: u32, col: u32, closed: bool) -> Session {
-    let r = (row % 8) as usize;
+fn turned(s: Session, row: Row, col: Col, closed: bool) -> Session {
+    let r = (row.0 % keys::ROWS) as usize;
     let contacts = s.contacts;
     let mut next = s;
     next.contacts[r] = with_contact(contacts[r], col, closed);
@@ -83,7 +86,9 @@ fn finger(s: Session, rest: &[u8], closed: bool, form: &[u8]) -> Session {
     let pair = pair_of(rest, Kind::Row, Kind::Col);
     match pair {
         Pair::Wrong(wrong) => refused(s, rest, wrong, form),
-        Pair::Numbers(row, col) => believed(turned(s, row, col, closed)),
+        Pair::Numbers(row, col) => {
+            believed(turned(s, Row((row % 256) as u8), Col((col % 256) as u8), closed))
+        }
     }
 }
 

@@ -1,14 +1,11 @@
 // The panel's console: a command a line in, an answer a line out.
 mod commands;
-mod draw;
 mod fingers;
-mod help;
-mod out;
 mod perform;
-mod refusal;
 mod reply;
 mod session;
 
+use answers::out;
 use libc::STDIN_FILENO;
 use session::Session;
 use text::lines::NEWLINE;

@@ -1,18 +1,19 @@
 // The commands, done and answered.
 use crate::commands;
 use crate::commands::Heard;
-use crate::commands::Kind;
 use crate::commands::Pair;
-use crate::draw;
 use crate::fingers;
-use crate::help;
-use crate::refusal::refused;
-use crate::refusal::too_long;
-use crate::refusal::unknown;
 use crate::reply::bytes_read;
+use crate::reply::on_page;
 use crate::reply::question;
+use crate::reply::refused;
 use crate::reply::told;
 use crate::session::Session;
+use answers::draw;
+use answers::help;
+use answers::refusal::Kind;
+use answers::refusal::too_long;
+use answers::refusal::unknown;
 use calls::Done;
 use keys::Col;
 use keys::Row;
@@ -138,13 +139,13 @@ fn show(s: Session, rest: &[u8]) -> Session {
     if !commands::is_empty(rest) {
         return refused(s, rest, commands::too_many(), b"show");
     }
-    draw::show(s)
+    on_page(s, draw::show(s.page, s.panel))
 }
 
 // The word behind `help`: it is the last, and there is one list for it.
 fn help_with(s: Session, rest: &[u8], word: &[u8], last: bool) -> Session {
     if last & is_same(word, b"numbers") {
-        return help::numbers(s);
+        return on_page(s, help::numbers(s.page));
     }
     refused(s, rest, commands::too_many(), b"help, help numbers")
 }
@@ -155,7 +156,7 @@ fn helped(s: Session, rest: &[u8]) -> Session {
     let start = w.start;
     let end = w.end;
     if start == end {
-        return help::commands(s);
+        return on_page(s, help::commands(s.page));
     }
     let n = rest.len();
     help_with(
@@ -187,7 +188,7 @@ fn of_session(s: Session, word: &[u8], rest: &[u8]) -> Session {
     if is_same(word, b"quit") {
         return quit(s, rest);
     }
-    unknown(s, word)
+    on_page(s, unknown(s.page, word))
 }
 
 // The questions, and reset.
@@ -251,7 +252,7 @@ fn asked(s: Session, line: &[u8], list: &mut [u32]) -> Session {
 // Does what a line asks for and answers it; its numbers go to the list.
 pub(crate) fn perform(s: Session, line: &[u8], list: &mut [u32]) -> Session {
     if LONGEST < line.len() {
-        return too_long(s);
+        return on_page(s, too_long(s.page));
     }
     let n = without_return(line);
     asked(s, &line[0..n], list)

@@ -1,10 +1,24 @@
 // The lines that answer a command.
-use crate::out;
 use crate::session::Session;
+use answers::out;
+use answers::refusal::Wrong;
+use answers::refusal::refusal;
 use calls::Answered;
 use calls::Done;
 use state::Module;
 use text::page::Page;
+
+// The session with a page.
+pub(crate) fn on_page(s: Session, page: Page) -> Session {
+    let mut next = s;
+    next.page = page;
+    next
+}
+
+// A line with something wrong behind its command.
+pub(crate) fn refused(s: Session, line: &[u8], wrong: Wrong, form: &[u8]) -> Session {
+    on_page(s, refusal(s.page, line, wrong, form))
+}
 
 // The session with a panel and a page.
 fn with(s: Session, panel: Module, page: Page) -> Session {

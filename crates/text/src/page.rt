@@ -49,7 +49,7 @@ pub fn put(p: Page, byte: u8) -> Page
 // A text goes on the page.
 pub fn text(p: Page, words: &[u8]) -> Page
     requires { ⌜ p .at + length (now words) ≤ 256 ⌝ }
-    ensures { λ r. ⌜ r ≡ wrote p (now (words .entry)) ⌝ }
+    ensures { λ r. ⌜ (r ≡ wrote p (now (words .entry))) × (r .at ≤ 256) ⌝ }
 {
     let mut next = p;
     let mut i: usize = 0;
@@ -90,7 +90,7 @@ pub fn hex(p: Page, byte: u8) -> Page
 // Bytes go on the page, each behind a blank.
 pub fn listed(p: Page, bytes: &[u8]) -> Page
     requires { ⌜ p .at + length (now bytes) * 3 ≤ 256 ⌝ }
-    ensures { λ r. ⌜ r ≡ wrote p (listed (now (bytes .entry))) ⌝ }
+    ensures { λ r. ⌜ (r ≡ wrote p (listed (now (bytes .entry)))) × (r .at ≤ 256) ⌝ }
 {
     let mut next = p;
     let mut i: usize = 0;
@@ -119,7 +119,7 @@ fn last_digits(p: Page, number: u32, most: u8) -> Page
 // A number's digits in base 10 go on the page, as many as it has.
 pub fn decimal(p: Page, number: u32) -> Page
     requires { ⌜ p .at + 10 ≤ 256 ⌝ }
-    ensures { λ r. ⌜ r ≡ wrote p (decimal number) ⌝ }
+    ensures { λ r. ⌜ (r ≡ wrote p (decimal number)) × (r .at ≤ 256) ⌝ }
 {
     last_digits(p, number, 10)
 }

@@ -10,7 +10,7 @@ last-digits-requires c κs = search needs
 
 returns : tie.Need-returns
 unfolding decimal
-returns c = c .last-digits .ensures .0
+returns c = (c .last-digits .ensures .0, search needs)
 
 pub decimal-spec : {M : Type 1} → statement M
 decimal-spec = tie.close (tie.spec last-digits-requires returns)

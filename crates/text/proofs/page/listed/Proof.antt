@@ -37,7 +37,7 @@ loop-again : tie.Need-loop-again Inv-loop μ-loop
 loop-again c = let l = c .before .before .before .before .loop in (search needs, search needs, l .inv .2 ∙ listed-next (l .next) _ (l .i) (c .before .before .before .loop-test .taken) _ _ (c .before .before .put .ensures .0) (c .hex .ensures .0))
 
 returns : tie.Need-returns Inv-loop μ-loop
-returns c = let l = c .before .loop in sym (l .inv .2 ∙ listed-end (l .next) _ (l .i) (c .loop-test .left))
+returns c = let l = c .before .loop in (sym (l .inv .2 ∙ listed-end (l .next) _ (l .i) (c .loop-test .left)), search needs)
 
 pub listed-spec : {M : Type 1} → statement M
 listed-spec =

@@ -34,7 +34,7 @@ loop-again : tie.Need-loop-again Inv-loop μ-loop
 loop-again c = let l = c .before .before .before .loop in (search needs, search needs, l .inv .2 ∙ wrote-next (l .next) _ (l .i) (c .before .before .loop-test .taken) _ (c .put .ensures .0))
 
 returns : tie.Need-returns Inv-loop μ-loop
-returns c = let l = c .before .loop in sym (l .inv .2 ∙ wrote-end (l .next) _ (l .i) (c .loop-test .left))
+returns c = let l = c .before .loop in (sym (l .inv .2 ∙ wrote-end (l .next) _ (l .i) (c .loop-test .left)), search needs)
 
 pub text-spec : {M : Type 1} → statement M
 text-spec =

@@ -1,12 +1,14 @@
 // The lists of the commands and of the numbers; their last line is a full stop.
 use crate::out;
-use crate::session::Session;
+use text::page::Page;
+ghost use Prim.Native.Nat.{_≤_};
 
 // The commands.
-pub(crate) fn commands(s: Session) -> Session {
-    let mut next = s;
-    next.page = out::text(
-        s.page,
+pub fn commands(p: Page) -> Page
+    ensures { λ r. ⌜ r .at ≤ 256 ⌝ }
+{
+    out::text(
+        p,
         b"reset              the panel after reset; the contacts stay as they are\n\
         look S0 S1 ..      one look: a 16-bit sample for each row; bit c is column c, bit 12 the SF key\n\
         press ROW COL      a finger closes this contact, for as many looks as make the panel believe it\n\
@@ -22,15 +24,15 @@ pub(crate) fn commands(s: Session) -> Session {
         Samples, addresses and bytes are hexadecimal; counts, rows and columns are decimal; COL is 0 to 11, 12 or SF.\n\
         The answer is the call's number, 0 if it was done, and what was asked for.\n\
         .\n",
-    );
-    next
+    )
 }
 
 // The numbers.
-pub(crate) fn numbers(s: Session) -> Session {
-    let mut next = s;
-    next.page = out::text(
-        s.page,
+pub fn numbers(p: Page) -> Page
+    ensures { λ r. ⌜ r .at ≤ 256 ⌝ }
+{
+    out::text(
+        p,
         b"A call answers with a number: 0 if it was done. Any other declines it, and nothing is altered.\n\
         0  done\n\
         1  look: the list isn't eight samples\n\
@@ -43,6 +45,5 @@ pub(crate) fn numbers(s: Session) -> Session {
         8  all but reset: the panel's state is unsound; never after a reset\n\
         9  look: a change falls on a key out of the size; never of a sound state\n\
         .\n",
-    );
-    next
+    )
 }

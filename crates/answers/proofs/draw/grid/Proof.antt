@@ -2,8 +2,8 @@
 -- Assumes nothing.
 use Prim.Native.Nat.{_≤_, _-_}
 use borrow.Author.Needs.{needs}
-use Rattle.console.proofs.draw.grid.Statement.{statement}
-use Rattle.console.proofs.draw.grid.Tie as tie
+use Rattle.answers.proofs.draw.grid.Statement.{statement}
+use Rattle.answers.proofs.draw.grid.Tie as tie
 
 abbrev Inv-loop : tie.InvT-loop
 Inv-loop held run size rows cols next₀ r₀ next r = r ≤ rows

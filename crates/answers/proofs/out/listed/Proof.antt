@@ -1,16 +1,19 @@
--- `out::listed` is safe, and what goes on the page has room there: each turn lists one byte or more.
+-- `out::listed` meets its contract, and what goes on the page has room there: each turn lists one byte or more.
 -- Assumes nothing.
 use Prim.Native.Nat.{_≤_, _-_}
 use lib.ListN.{length}
 use borrow.Author.Needs.{needs}
-use Rattle.console.proofs.out.listed.Statement.{statement}
-use Rattle.console.proofs.out.listed.Tie as tie
+use Rattle.answers.proofs.out.listed.Statement.{statement}
+use Rattle.answers.proofs.out.listed.Tie as tie
 
 abbrev Inv-loop : tie.InvT-loop
-Inv-loop bytes next₀ i₀ next i = i ≤ length bytes
+Inv-loop bytes next₀ i₀ next i = (i ≤ length bytes) × (next .at ≤ 256)
 
 abbrev μ-loop : tie.MeasureT-loop
 μ-loop bytes next₀ i₀ next i = length bytes - i
+
+room-requires : tie.Need-room-requires Inv-loop μ-loop
+room-requires c κs = search needs
 
 loop-holds : tie.Need-loop-holds Inv-loop μ-loop
 loop-holds c = search needs
@@ -24,8 +27,8 @@ least-requires c κs = search needs
 mul-room : tie.Need-mul-room Inv-loop μ-loop
 mul-room c = search needs
 
-room-requires : tie.Need-room-requires Inv-loop μ-loop
-room-requires c κs = search needs
+room-requires-2 : tie.Need-room-requires-2 Inv-loop μ-loop
+room-requires-2 c κs = search needs
 
 add-listed : tie.Need-add-listed Inv-loop μ-loop
 add-listed c = search needs
@@ -60,11 +63,12 @@ listed-spec =
     (tie.spec
     Inv-loop
     μ-loop
+    room-requires
     loop-holds
     sub-least
     least-requires
     mul-room
-    room-requires
+    room-requires-2
     add-listed
     sub-listed
     part-listed-start

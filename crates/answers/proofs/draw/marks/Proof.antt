@@ -2,8 +2,8 @@
 -- Assumes nothing.
 use Prim.Native.Nat.{_≤_, _-_}
 use borrow.Author.Needs.{needs}
-use Rattle.console.proofs.draw.marks.Statement.{statement}
-use Rattle.console.proofs.draw.marks.Tie as tie
+use Rattle.answers.proofs.draw.marks.Statement.{statement}
+use Rattle.answers.proofs.draw.marks.Tie as tie
 
 abbrev Inv-loop : tie.InvT-loop
 Inv-loop held run row cols next₀ c₀ next c = c ≤ cols

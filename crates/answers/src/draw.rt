@@ -1,6 +1,5 @@
 // The panel drawn for a person.
 use crate::out;
-use crate::session::Session;
 use keys::COLS;
 use keys::Col;
 use keys::KEYS;
@@ -9,6 +8,7 @@ use state::Module;
 use state::PLACES;
 use text::page;
 use text::page::Page;
+ghost use Prim.Native.Nat.{_≤_};
 
 // The line above the keys: five places, and three for each column's label.
 const HEAD: [u8; 41] = *b"row    0  1  2  3  4  5  6  7  8  9 10 11";
@@ -152,7 +152,9 @@ fn settings(p: Page, m: Module) -> Page {
 }
 
 // How the interrupt line is.
-fn level(p: Page, asserted: bool) -> Page {
+fn level(p: Page, asserted: bool) -> Page
+    ensures { λ r. ⌜ r .at ≤ 256 ⌝ }
+{
     if asserted {
         return out::text(p, b", interrupt line asserted\n.\n");
     }
@@ -160,13 +162,12 @@ fn level(p: Page, asserted: bool) -> Page {
 }
 
 // The panel: keys, codes, registers, flags and line; the last line is a full stop.
-pub(crate) fn show(s: Session) -> Session {
-    let m = s.panel;
+pub fn show(p: Page, m: Module) -> Page
+    ensures { λ r. ⌜ r .at ≤ 256 ⌝ }
+{
     let held = m.held;
     let run = m.run;
     let queue = m.queue;
-    let waiting = codes(grid(s.page, &held, &run, m.size), queue, m.count);
-    let mut next = s;
-    next.page = level(settings(masked(raw(waiting, m), m), m), flags::line(m));
-    next
+    let waiting = codes(grid(p, &held, &run, m.size), queue, m.count);
+    level(settings(masked(raw(waiting, m), m), m), flags::line(m))
 }

@@ -1,16 +1,19 @@
--- `out::text` is safe, and what goes on the page has room there: each turn writes one byte or more.
+-- `out::text` meets its contract, and what goes on the page has room there: each turn writes one byte or more.
 -- Assumes nothing.
 use Prim.Native.Nat.{_≤_, _-_}
 use lib.ListN.{length}
 use borrow.Author.Needs.{needs}
-use Rattle.console.proofs.out.text.Statement.{statement}
-use Rattle.console.proofs.out.text.Tie as tie
+use Rattle.answers.proofs.out.text.Statement.{statement}
+use Rattle.answers.proofs.out.text.Tie as tie
 
 abbrev Inv-loop : tie.InvT-loop
-Inv-loop words next₀ i₀ next i = i ≤ length words
+Inv-loop words next₀ i₀ next i = (i ≤ length words) × (next .at ≤ 256)
 
 abbrev μ-loop : tie.MeasureT-loop
 μ-loop words next₀ i₀ next i = length words - i
+
+room-requires : tie.Need-room-requires Inv-loop μ-loop
+room-requires c κs = search needs
 
 loop-holds : tie.Need-loop-holds Inv-loop μ-loop
 loop-holds c = search needs
@@ -21,8 +24,8 @@ sub-least c = search needs
 least-requires : tie.Need-least-requires Inv-loop μ-loop
 least-requires c κs = search needs
 
-room-requires : tie.Need-room-requires Inv-loop μ-loop
-room-requires c κs = search needs
+room-requires-2 : tie.Need-room-requires-2 Inv-loop μ-loop
+room-requires-2 c κs = search needs
 
 add-text : tie.Need-add-text Inv-loop μ-loop
 add-text c = search needs
@@ -57,10 +60,11 @@ text-spec =
     (tie.spec
     Inv-loop
     μ-loop
+    room-requires
     loop-holds
     sub-least
     least-requires
-    room-requires
+    room-requires-2
     add-text
     sub-text
     part-text-start

@@ -3,8 +3,8 @@
 use Prim.Native.Nat.{_≤_, _-_}
 use lib.ListN.{length}
 use borrow.Author.Needs.{needs}
-use Rattle.console.proofs.draw.names.Statement.{statement}
-use Rattle.console.proofs.draw.names.Tie as tie
+use Rattle.answers.proofs.draw.names.Statement.{statement}
+use Rattle.answers.proofs.draw.names.Tie as tie
 
 abbrev Inv-loop : tie.InvT-loop
 Inv-loop codes next₀ i₀ next i = i ≤ length codes

@@ -1,11 +1,29 @@
 // The lines that tell what is wrong: the word, and what was wanted of it.
-use crate::commands::Kind;
-use crate::commands::Wrong;
 use crate::out;
-use crate::session::Session;
 use text::number::Fault;
 use text::page::Page;
 use text::page::least;
+ghost use Prim.Native.Nat.{_≤_};
+
+// What is wanted of a word: a sample; an address or a byte; how many bytes to read; a row or a column that is asked for; the row and the column of a contact;
+// how many looks to make.
+pub enum Kind {
+    Sample,
+    Byte,
+    Count,
+    Place,
+    Row,
+    Col,
+    Looks,
+}
+
+// What is wrong, the word that is, by its places, and what was wanted of it.
+pub struct Wrong {
+    pub fault: Fault,
+    pub kind: Kind,
+    pub start: usize,
+    pub end: usize,
+}
 
 // How much is shown of a word.
 const SHOWN: usize = 20;
@@ -59,7 +77,9 @@ fn not_a_number(p: Page, kind: Kind) -> Page {
 }
 
 // What was wanted of such a word.
-fn digits_wanted(p: Page, kind: Kind) -> Page {
+fn digits_wanted(p: Page, kind: Kind) -> Page
+    ensures { λ r. ⌜ r .at ≤ 256 ⌝ }
+{
     match kind {
         Kind::Sample => out::text(p, b" (samples are hexadecimal)\n"),
         Kind::Byte => out::text(p, b" (addresses and bytes are hexadecimal)\n"),
@@ -80,7 +100,9 @@ fn not_in_range(p: Page, kind: Kind) -> Page {
 }
 
 // What was wanted of such a number.
-fn range_wanted(p: Page, kind: Kind) -> Page {
+fn range_wanted(p: Page, kind: Kind) -> Page
+    ensures { λ r. ⌜ r .at ≤ 256 ⌝ }
+{
     match kind {
         Kind::Sample => out::text(p, b" (a sample is at most FFFF)\n"),
         Kind::Byte => out::text(p, b" (an address or a byte is at most FF)\n"),
@@ -93,26 +115,34 @@ fn range_wanted(p: Page, kind: Kind) -> Page {
 }
 
 // A number of words that the command doesn't take.
-fn form_wanted(p: Page, form: &[u8]) -> Page {
+fn form_wanted(p: Page, form: &[u8]) -> Page
+    ensures { λ r. ⌜ r .at ≤ 256 ⌝ }
+{
     out::text(out::text(out::text(p, b" ("), form), b")\n")
 }
 
 // A word with a digit that is none.
-fn no_digit(p: Page, line: &[u8], wrong: Wrong) -> Page {
+fn no_digit(p: Page, line: &[u8], wrong: Wrong) -> Page
+    ensures { λ r. ⌜ r .at ≤ 256 ⌝ }
+{
     let kind = wrong.kind;
     let told = word_at(not_a_number(p, kind), line, wrong.start, wrong.end);
     digits_wanted(told, kind)
 }
 
 // A number that is too large.
-fn too_large(p: Page, line: &[u8], wrong: Wrong) -> Page {
+fn too_large(p: Page, line: &[u8], wrong: Wrong) -> Page
+    ensures { λ r. ⌜ r .at ≤ 256 ⌝ }
+{
     let kind = wrong.kind;
     let told = word_at(not_in_range(p, kind), line, wrong.start, wrong.end);
     range_wanted(told, kind)
 }
 
 // What is wrong with a line whose command has this form.
-fn refusal(p: Page, line: &[u8], wrong: Wrong, form: &[u8]) -> Page {
+pub fn refusal(p: Page, line: &[u8], wrong: Wrong, form: &[u8]) -> Page
+    ensures { λ r. ⌜ r .at ≤ 256 ⌝ }
+{
     let fault = wrong.fault;
     match fault {
         Fault::NoDigit => no_digit(p, line, wrong),
@@ -122,24 +152,17 @@ fn refusal(p: Page, line: &[u8], wrong: Wrong, form: &[u8]) -> Page {
     }
 }
 
-// A line with something wrong behind its command.
-pub(crate) fn refused(s: Session, line: &[u8], wrong: Wrong, form: &[u8]) -> Session {
-    let mut next = s;
-    next.page = refusal(s.page, line, wrong, form);
-    next
-}
-
 // A line whose first word is no command.
-pub(crate) fn unknown(s: Session, word: &[u8]) -> Session {
-    let mut next = s;
-    let page = quoted(out::text(s.page, b"? unknown command: "), word);
-    next.page = out::text(page, b" (help lists them)\n");
-    next
+pub fn unknown(p: Page, word: &[u8]) -> Page
+    ensures { λ r. ⌜ r .at ≤ 256 ⌝ }
+{
+    let page = quoted(out::text(p, b"? unknown command: "), word);
+    out::text(page, b" (help lists them)\n")
 }
 
 // A line that is too long.
-pub(crate) fn too_long(s: Session) -> Session {
-    let mut next = s;
-    next.page = out::text(s.page, b"? line too long (16384 bytes at most)\n");
-    next
+pub fn too_long(p: Page) -> Page
+    ensures { λ r. ⌜ r .at ≤ 256 ⌝ }
+{
+    out::text(p, b"? line too long (16384 bytes at most)\n")
 }

@@ -14,7 +14,7 @@ fn send(bytes: &[u8], at: usize) -> bool {
 }
 
 // Writes out what stands on the page, and empties it.
-pub(crate) fn written(p: Page) -> Page
+pub fn written(p: Page) -> Page
     ensures { λ r. ⌜ r .at ≤ 0 ⌝ }
 {
     let bytes = p.bytes;
@@ -37,18 +37,24 @@ fn room(p: Page, n: usize) -> Page
 }
 
 // Writes a byte.
-pub(crate) fn put(p: Page, byte: u8) -> Page {
+pub fn put(p: Page, byte: u8) -> Page
+    ensures { λ r. ⌜ r .at ≤ 256 ⌝ }
+{
     page::put(room(p, 1), byte)
 }
 
 // Ends the line.
-pub(crate) fn end(p: Page) -> Page {
+pub fn end(p: Page) -> Page
+    ensures { λ r. ⌜ r .at ≤ 256 ⌝ }
+{
     put(p, NEWLINE)
 }
 
 // Writes a text.
-pub(crate) fn text(p: Page, words: &[u8]) -> Page {
-    let mut next = p;
+pub fn text(p: Page, words: &[u8]) -> Page
+    ensures { λ r. ⌜ r .at ≤ 256 ⌝ }
+{
+    let mut next = room(p, 0);
     let mut i: usize = 0;
     while i < words.len() {
         let n = page::least(words.len() - i, 256);
@@ -59,8 +65,10 @@ pub(crate) fn text(p: Page, words: &[u8]) -> Page {
 }
 
 // Writes bytes, each behind a blank.
-pub(crate) fn listed(p: Page, bytes: &[u8]) -> Page {
-    let mut next = p;
+pub fn listed(p: Page, bytes: &[u8]) -> Page
+    ensures { λ r. ⌜ r .at ≤ 256 ⌝ }
+{
+    let mut next = room(p, 0);
     let mut i: usize = 0;
     while i < bytes.len() {
         let n = page::least(bytes.len() - i, 85);
@@ -71,11 +79,15 @@ pub(crate) fn listed(p: Page, bytes: &[u8]) -> Page {
 }
 
 // Writes a name, and a byte in base 16.
-pub(crate) fn hex(p: Page, name: &[u8], byte: u8) -> Page {
+pub fn hex(p: Page, name: &[u8], byte: u8) -> Page
+    ensures { λ r. ⌜ r .at ≤ 256 ⌝ }
+{
     page::hex(room(text(p, name), 2), byte)
 }
 
 // Writes a number in base 10.
-pub(crate) fn decimal(p: Page, number: u32) -> Page {
+pub fn decimal(p: Page, number: u32) -> Page
+    ensures { λ r. ⌜ r .at ≤ 256 ⌝ }
+{
     page::decimal(room(p, 10), number)
 }
