@@ -1,6 +1,6 @@
 /*
  * The key module in plain C, from document 01: what a firmware engineer would write over `struct panel`.
- * It judges and does the same as the archive. Number 9 has no line here: only keys in the size are walked, so no other can change.
+ * It judges and does the same as the archive.
  */
 #include "face.h"
 

@@ -34,8 +34,8 @@
  * This header's version, 10000 x first + 100 x second + third. The first rises when a caller must be changed or compiled again: another layout,
  * another meaning of a call. The second rises when something is added, the third when only words change. Header and archive are of one version.
  */
-#define PANEL_VERSION 10000
-#define PANEL_VERSION_TEXT "1.0.0"
+#define PANEL_VERSION 20000
+#define PANEL_VERSION_TEXT "2.0.0"
 
 /* On a call that gives a number: the compiler warns if nobody looks at it. */
 #if defined(__GNUC__)
@@ -48,7 +48,7 @@
 extern "C" {
 #endif
 
-/* The numbers that a call can give. */
+/* The numbers that a call can give. 9 was given by no call, is retired and gets no new use. */
 enum panel_number {
     PANEL_DONE = 0,
     PANEL_NOT_EIGHT = 1,   /* look: the list isn't eight samples */
@@ -58,8 +58,7 @@ enum panel_number {
     PANEL_NOT_ALLOWED = 5, /* access: some address of the run is unknown, or can't be read or written as asked */
     PANEL_BAD_SIZE = 6,    /* write: a byte for KBDSIZE isn't acceptable */
     PANEL_NO_KEY = 7,      /* held question: row above 7 or column above 12 */
-    PANEL_UNSOUND = 8,     /* all but reset: the module isn't sound; never after calls from reset alone */
-    PANEL_OUT_OF_SIZE = 9  /* look: a change falls on a key out of the size; never seen, since a sound module has no such change */
+    PANEL_UNSOUND = 8      /* all but reset: the module isn't sound; never after calls from reset alone */
 };
 
 /* The registers, by the data sheet's names. Every other address is unknown. */
@@ -132,7 +131,7 @@ struct panel_col {
 
 /*
  * One look: a sample for each row, bit c set when column c is closed, bit 12 for the special function key.
- * Numbers: PANEL_UNSOUND, PANEL_NOT_EIGHT, PANEL_HIGH_BITS, PANEL_OUT_OF_SIZE, else PANEL_DONE.
+ * Numbers: PANEL_UNSOUND, PANEL_NOT_EIGHT, PANEL_HIGH_BITS, else PANEL_DONE.
  */
 PANEL_NUMBER uint8_t panel_look(struct panel *panel, const uint16_t *samples, uint64_t count);
 

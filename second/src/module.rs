@@ -2,7 +2,7 @@
 //!
 //! Each key has the list of its samples since the restart, and changes when the last D of them
 //! say so. Held keys, waiting codes and read picture registers are ordinary collections. There
-//! is no unsound state, and only keys in the size change, so numbers 8 and 9 are never given.
+//! is no unsound state, so number 8 is never given.
 
 use crate::calls::Calls;
 use std::collections::{BTreeSet, VecDeque};

@@ -43,7 +43,7 @@ pub fn numbers(p: Page) -> Page
         6  write: a byte for KBDSIZE isn't acceptable\n\
         7  held question: row above 7 or column above 12\n\
         8  all but reset: the panel's state is unsound; never after a reset\n\
-        9  look: a change falls on a key out of the size; never of a sound state\n\
+        9 was given by no call, is retired and gets no new use.\n\
         .\n",
     )
 }

@@ -1,7 +1,6 @@
 -- What a call hands back, as its returns meet it.
 --
 --    unsound-first, sound-then        the first line of every call but reset
---    look-samples, look-strays        the lines of a look after that
 --    outcome-done, outcome-declined   a call that is done, and one that is declined
 --    answer-done, answer-declined     the same of a question
 --    buffer-done, buffer-declined     the buffer after a read
@@ -9,20 +8,17 @@
 use Prim.Native.Nat.{ℕ}
 use mathlib.Core.Path.{_≡_, refl, ap, _∙_}
 use mathlib.Core.Bool.{Bool, true, false, not}
-use mathlib.Core.List.{List, [], _∷_, _++_}
+use mathlib.Core.List.{List, [], _∷_}
 use lib.ListN.{length}
 use borrow.Author.Tests.{ne-eqb}
-use Rattle.numbers.specs.Numbers.{Line, _gives_, numberOf, done, unsound, outOfSize}
-use Rattle.numbers.proofs.Laws.{line-yes, line-no, first-decides, rest-decides}
-use Rattle.judge.specs.Lines.{sampleLines}
-use Rattle.judge.proofs.Laws.{samples-decline}
+use Rattle.numbers.specs.Numbers.{Line, _gives_, numberOf, unsound}
+use Rattle.numbers.proofs.Laws.{line-yes, line-no}
 use Rattle.state.specs.declared.Module.{Module}
 use Rattle.sound.specs.Sound.{sound}
-use Rattle.scan.specs.Scan.{strays}
 use Rattle.access.specs.Accesses.{bytesRead}
 use Rattle.calls.specs.declared.Done.{Done}
 use Rattle.calls.specs.declared.Answered.{Answered}
-use Rattle.calls.specs.Calls.{lookLines, lookNumber, readNumber, outcome, answer, readBuffer}
+use Rattle.calls.specs.Calls.{readNumber, outcome, answer, readBuffer}
 
 module _ (m : Module) (l : List Line) where
   pub unsound-first : sound m ≡ false → numberOf (not (sound m) gives unsound ∷ l) ≡ unsound
@@ -30,19 +26,6 @@ module _ (m : Module) (l : List Line) where
 
   pub sound-then : sound m ≡ true → numberOf (not (sound m) gives unsound ∷ l) ≡ numberOf l
   sound-then e = line-no (not (sound m)) unsound l (ap not e)
-
-module _ (m : Module) (s : List ℕ) (ok : sound m ≡ true) where
-  -- the line behind those of the samples
-  abbrev last : List Line
-  last = strays m s gives outOfSize ∷ []
-
-  pub look-samples : (numberOf (sampleLines s) ≡ done → ⊥) → lookNumber m s ≡ numberOf (sampleLines s)
-  unfolding lookNumber lookLines
-  look-samples h = sound-then m (sampleLines s ++ last) ok ∙ first-decides (sampleLines s) last h
-
-  pub look-strays : numberOf (sampleLines s) ≡ done → lookNumber m s ≡ numberOf last
-  unfolding lookNumber lookLines
-  look-strays h = sound-then m (sampleLines s ++ last) ok ∙ rest-decides (sampleLines s) last (samples-decline s) h
 
 module _ (m : Module) (n : ℕ) where
   pub outcome-done : (x y : Module) → y ≡ x → n ≡ 0 → _≡_ {A = Done} (record { after = y; number = 0 }) (outcome m x n)

@@ -8,25 +8,25 @@
 --    heldCall, interruptCall        the questions: number, state and answer
 use Prim.Native.Nat.{ℕ}
 use mathlib.Core.Bool.{Bool, false, not}
-use mathlib.Core.List.{List, [], _∷_, _++_}
+use mathlib.Core.List.{List, [], _∷_}
 use lib.ListN.{length, getD}
 use lib.Dec.{eqb}
 use Rattle.words.specs.Words.{_if_, _else_}
-use Rattle.numbers.specs.Numbers.{Line, _gives_, numberOf, done, unsound, outOfSize}
+use Rattle.numbers.specs.Numbers.{Line, _gives_, numberOf, done, unsound}
 use Rattle.keys.specs.Keys.{keyAt}
 use Rattle.judge.specs.Lines.{sampleLines, readLines, writeLines, keyLines}
 use Rattle.state.specs.declared.Module.{Module}
 use Rattle.state.specs.Module.{fresh}
 use Rattle.flags.specs.Flags.{line}
 use Rattle.sound.specs.Sound.{sound}
-use Rattle.scan.specs.Scan.{strays, looked}
+use Rattle.scan.specs.Scan.{looked}
 use Rattle.access.specs.Accesses.{wrote, readAll, bytesRead}
 use Rattle.calls.specs.declared.Done.{Done}
 use Rattle.calls.specs.declared.Answered.{Answered}
 
--- "Order: 8; then 1, 2, 9 for a look; 3, 4, 5, 6 for an access; 7 for the held question."
+-- "Order: 8; then 1, 2, 9 for a look; 3, 4, 5, 6 for an access; 7 for the held question.": without 9, which is retired
 unfoldable pub lookLines : Module → List ℕ → List Line
-lookLines m s = not (sound m) gives unsound ∷ sampleLines s ++ (strays m s gives outOfSize ∷ [])
+lookLines m s = not (sound m) gives unsound ∷ sampleLines s
 
 unfoldable pub heldLines : Module → ℕ → ℕ → List Line
 unfolding keyLines

@@ -47,12 +47,6 @@ pub fn look(m: Module, samples: &[u16]) -> Done
             number: number,
         };
     }
-    if scan::has_strays(m) {
-        return Done {
-            after: m,
-            number: numbers::OUT_OF_SIZE,
-        };
-    }
     Done {
         after: scan::looked(m, samples),
         number: numbers::DONE,

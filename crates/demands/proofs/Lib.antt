@@ -16,3 +16,4 @@ pub mod Determined
 pub mod Source
 pub mod Total
 pub mod Opened
+pub mod Retired

@@ -20,13 +20,11 @@ use Rattle.sheet.proofs.Ledger.{ledger}
 use Rattle.sheet.proofs.Replay.{replay}
 use Rattle.sheet.proofs.Loss.{relint-exact}
 use Rattle.state.specs.declared.Module.{Module}
-use Rattle.scan.specs.Scan.{strays}
 use Rattle.demands.specs.Machine.{Call, after, done, fits, fetched, seen}
 use Rattle.demands.specs.Demands.{Demand1, NeverUnsound, Demand2, Demand3, NoSilentLoss}
 use Rattle.demands.specs.Ours.{ours}
-use Rattle.demands.proofs.Sound.{no-strays-shown}
 use Rattle.demands.proofs.Rows.{numbers-exact, declined-alters-nothing}
-use Rattle.demands.proofs.Reached.{reached, reached-said}
+use Rattle.demands.proofs.Reached.{reached-said}
 use Rattle.demands.proofs.Observed.{bytes-observed, held-observed, line-observed, fetched-taken, seen-waiting, none-waits, relint-observed}
 
 -- row 8 of the table is judged by what the machine tells of its states: ours tell the whole truth
@@ -41,10 +39,7 @@ ours-demand1 = record { exact = numbers-exact; declined = declined-alters-nothin
 -- "Number 8 is given .. never for a state reached by calls from reset."
 pub ours-never-unsound : NeverUnsound ours
 ours-never-unsound =
-    record {
-      never = reached-said;
-      nowhere = λ cs s. ap (λ (m : Module). strays m s) (reached cs) ∙ no-strays-shown (done ours cs) s;
-    }
+    record { never = reached-said }
 
 -- "2. Held keys, fetched bytes, flags and the interrupt line are what the LM8328 data sheet, as narrowed by document 01,
 -- gives for the looks and bus accesses made so far. That holds for setting registers as well as for fetching them."

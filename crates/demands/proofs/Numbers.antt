@@ -4,7 +4,7 @@
 --    Joined lines rs             the lines and the rows have the same numbers, and each Bool decides its proposition
 --    lines-first                 THE GENERAL LAW: the number of the lines is that of the first row that holds
 --    first-only                  and no other number is
---    refused, itself             what a Bool decides that is denied, or stands for itself
+--    refused                     what a Bool decides that is denied
 --    decide-eq, decide-ne, decide-lt    what the comparisons decide
 -- Assumes nothing.
 use Prim.Native.Nat.{ℕ, _<_}
@@ -50,9 +50,6 @@ first-only ((P ⇒ m) ∷ rs) n k (inr g) (inr h) = first-only rs n k (g .1) (h 
 -- ---- plain tests
 pub refused : (b : Bool) {P : Type 0} → (b ≡ false → P) → (b ≡ true → P → ⊥) → Decides (not b) P
 refused b h f = record { holds = λ e. h (not-true b e); fails = λ e. f (not-false b e) }
-
-pub itself : (b : Bool) → Decides b (b ≡ true)
-itself b = record { holds = λ e. e; fails = λ e f. true-false (sym f ∙ e) }
 
 pub decide-eq : (n m : ℕ) → Decides (eqb n m) (n ≡ m)
 decide-eq n m = record { holds = eqb-true n m; fails = eqb-false n m }

@@ -8,9 +8,8 @@
 --    unsound-decided            "module state unsound": document 01's sentences, by Said
 --    numbers-exact              EVERY CALL, IN EVERY STATE, gives the number of the first row that holds
 --    declined-alters-nothing    a number that isn't 0 leaves state and buffer as they came, and a question's answer is no
---    astray-means               the row 9 for ours: some key out of the size changes
 -- Assumes nothing.
-use Prim.Native.Nat.{ℕ, suc, _-_, _<_, _≤_}
+use Prim.Native.Nat.{ℕ, suc, _-_, _≤_}
 use native.Mathlib.Decide.{ℕ-discrete, decLe}
 use native.Mathlib.Omega.{arith}
 use native.Mathlib.Nat.{le-refl}
@@ -26,7 +25,7 @@ use Rattle.words.specs.Words.{all, allBelow, bit}
 use Rattle.words.proofs.Laws.{true-false, all-below}
 use Rattle.words.proofs.Lists.{all-at}
 use Rattle.words.proofs.Places.{chain, all-places, fails-at}
-use Rattle.keys.specs.Keys.{isKey, acceptable, keyIn}
+use Rattle.keys.specs.Keys.{isKey, acceptable}
 use Rattle.keys.proofs.Laws.{key-yes, key-row, key-col}
 use Rattle.registers.specs.declared.Register.the-variants.{KBDBOUNCE, KBDSIZE, KBDRIS, KBDMIS, KBDIC, KBDMSK, KBDCODE, EVTCODE, RSTINTCLR, Unknown}
 use Rattle.registers.specs.declared.Access.{Access}
@@ -38,12 +37,11 @@ use Rattle.state.specs.declared.Module.{Module}
 use Rattle.state.specs.Typed.{Typed}
 use Rattle.sound.specs.Sound.{sound}
 use Rattle.sound.proofs.Exactly.{sound-said, said-sound}
-use Rattle.scan.specs.Scan.{contactAt, strays}
 use Rattle.calls.specs.Calls.{lookLines, heldLines, lookNumber, writeNumber, readNumber, heldNumber, interruptNumber, outcome, answer, resetCall, lookCall, writeCall, readCall, readBuffer, heldCall, interruptCall}
 use Rattle.demands.specs.Machine.{Call, reset, look, write, read, held, interrupt, lent}
 use Rattle.demands.specs.Table.{First, place, Unsound, HighBits, NotAllowed, BadSize, NoKey, rules}
 use Rattle.demands.specs.Ours.{changing, asking, called, ours}
-use Rattle.demands.proofs.Numbers.{Decides, none, _then_, lines-first, refused, itself, decide-eq, decide-ne, decide-lt}
+use Rattle.demands.proofs.Numbers.{Decides, none, _then_, lines-first, refused, decide-eq, decide-ne, decide-lt}
 
 -- ---- samples
 one-of : (a b c : Bool) → not (a || b || c) ≡ false → (a ≡ true) ⊎ ((b ≡ true) ⊎ (c ≡ true))
@@ -173,7 +171,7 @@ module _ (m : Module) where
   pub numbers-exact : Typed m → (c : Call) → First (rules ours m c) (called m c .number)
   unfolding called changing asking resetCall lookCall writeCall readCall heldCall interruptCall outcome answer lookNumber writeNumber readNumber heldNumber interruptNumber lookLines heldLines sampleLines readLines writeLines accessLines rules First
   numbers-exact t reset = refl
-  numbers-exact t (look s) = lines-first (unsound-decided m t then decide-ne (length s) 8 then decide-high s then itself (strays m s) then none)
+  numbers-exact t (look s) = lines-first (unsound-decided m t then decide-ne (length s) 8 then decide-high s then none)
   numbers-exact t (write a bs) =
       let n = length bs in
       lines-first (unsound-decided m t then decide-eq n 0 then decide-lt 32 n then decide-run Write a n then decide-sizes a bs then none)
@@ -192,19 +190,3 @@ module _ (m : Module) where
   declined-alters-nothing (read a out) h = let d = ne-eqb (readNumber m a (length out)) 0 h in (rw d, (rw d, refl))
   declined-alters-nothing (held row col) h = (refl, (refl, rw (ne-eqb (heldNumber m row col) 0 h)))
   declined-alters-nothing interrupt h = (refl, (refl, rw (ne-eqb (interruptNumber m) 0 h)))
-
--- ---- row 9, for ours
--- neither in the size nor without a change
-out-changed : (a b : Bool) → (a || not b) ≡ false → (a ≡ false) × (b ≡ true)
-out-changed true b e = true-false e
-out-changed false true e = (refl, refl)
-out-changed false false e = true-false e
-
--- "a change falls on a key out of the size"
-pub astray-means : (m : Module) (s : List ℕ) → Decides (strays m s) ((k : ℕ) × ((k < 104) × ((keyIn (m .size) k ≡ false) × (contactAt m s k .changed ≡ true))))
-unfolding strays
-astray-means m s =
-    let f : ℕ → Bool = λ k. keyIn (m .size) k || not (contactAt m s k .changed) in
-    refused (allBelow f 104)
-    (λ e. let r = fails-at f 104 e in (r .0, (r .1 .0, out-changed (keyIn (m .size) (r .0)) (contactAt m s (r .0) .changed) (r .1 .1))))
-    (λ e h. true-false (sym (all-below f 104 e (h .0) (h .1 .0)) ∙ rw (h .1 .1 .0, h .1 .1 .1)))

@@ -1,17 +1,15 @@
 -- NEVER UNSOUND: the module that the sheet writes down is sound, and no change falls on a key out of the size.
 --
 --    bytes-fit, sizes-fit    what `fitting` says of the bytes written, as the sheet's laws ask for it
---    out-shown          out of the size no key is held, and none has a run
 --    key-shown, codes-shown, rest-shown    what is asked of the keys, the codes that wait, and the unused places
 --    shown-sound        THE MODULE IS SOUND, if the bytes written fit
 --    shown-typed        and is as the struct's types say
---    no-strays-shown    number 9 is never given
 -- Assumes nothing.
 use Prim.Native.Nat.{ℕ, _-_, _<_}
 use native.Mathlib.Omega.{arith}
 use mathlib.Core.Path.{_≡_, refl, ap, _∙_}
 use mathlib.Core.Bool.{Bool, true, false, not, _&&_, _||_}
-use mathlib.Core.List.{List, [], _∷_, _++_}
+use mathlib.Core.List.{[], _∷_, _++_}
 use borrow.Author.Tests.{le-leb, eq-eqb, ltb-true}
 use lib.Dec.{leb, ltb, eqb}
 use lib.ListN.{length, getD, replicate, length-append, length-replicate}
@@ -31,8 +29,6 @@ use Rattle.state.specs.Module.{queueOf}
 use Rattle.state.specs.Typed.{Typed}
 use Rattle.sound.specs.Sound.{keySound, codesSound, restUnused, sound, Sound}
 use Rattle.sound.proofs.Laws.{facts-sound}
-use Rattle.scan.specs.Scan.{strays}
-use Rattle.scan.proofs.Laws.{no-strays}
 use Rattle.demands.specs.Shown.{run, places, shown, fitting}
 use Rattle.demands.proofs.Bytes.{seen-all}
 use Rattle.demands.proofs.Answers.{held-shown, waiting-shown}
@@ -60,11 +56,6 @@ sizes-fit = fits-writes sizeFits (λ r b e. and-right (leb b 0xFF) (byteFits r b
 run-shown : (past : Past) (k : ℕ) → k < 104 → getD (shown past .run) k 0 ≡ run k past
 unfolding shown
 run-shown past k h = table-at (λ k. run k past) 104 k 0 h
-
--- "no key out of the size is held or has a run of samples remembered"
-out-shown : (past : Past) (k : ℕ) → k < 104 → keyIn (shown past .size) k ≡ false → (getD (shown past .held) k false ≡ false) × (getD (shown past .run) k 0 ≡ 0)
-unfolding shown run
-out-shown past k h e = let i = out-open past k e in (held-shown past k h ∙ i .0, run-shown past k h ∙ i .1)
 
 key-sound : (past : Past) (k : ℕ) → fitting past ≡ true → keySound (size past) k (held k past) (run k past) ≡ true
 unfolding keySound run
@@ -122,6 +113,3 @@ shown-typed past f =
       bounce-low = bounce-low past (bytes-fit past f);
       marks = table-length (λ n. among n (marks past)) 4;
     }
-
-pub no-strays-shown : (past : Past) (s : List ℕ) → strays (shown past) s ≡ false
-no-strays-shown past s = no-strays (shown past) (out-shown past) s

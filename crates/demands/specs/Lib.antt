@@ -5,3 +5,4 @@ pub mod Ours
 pub mod Shown
 pub mod Wrong
 pub mod Sessions
+pub mod Retired

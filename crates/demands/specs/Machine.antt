@@ -50,8 +50,6 @@ pub record Machine : Type 1 where
   pub start : State
   -- what document 01 speaks of in a state: size, keys and runs, queue, mask and marks, as our struct has them
   pub parts : State → Module
-  -- does a look with these samples make a change fall on a key out of the size?
-  pub astray : State → List ℕ → Bool
   pub does : State → Call → Gives State
 
 unfoldable pub lent : Call → List ℕ

@@ -9,7 +9,6 @@ use mathlib.Core.List.{List, []}
 use lib.ListN.{length}
 use Rattle.state.specs.declared.Module.{Module}
 use Rattle.state.specs.Module.{fresh}
-use Rattle.scan.specs.Scan.{strays}
 use Rattle.calls.specs.declared.Done.{Done}
 use Rattle.calls.specs.declared.Answered.{Answered}
 use Rattle.calls.specs.Calls.{resetCall, lookCall, writeCall, readCall, readBuffer, heldCall, interruptCall}
@@ -30,4 +29,4 @@ called m (held row col) = asking (heldCall m row col)
 called m interrupt = asking (interruptCall m)
 
 abbrev pub ours : Machine
-ours = record { State = Module; start = fresh; parts = λ m. m; astray = strays; does = called }
+ours = record { State = Module; start = fresh; parts = λ m. m; does = called }

@@ -1,5 +1,5 @@
 -- THE TABLE OF NUMBERS, as propositions in document 01's words. With the module it shares the ground floor alone, which is anchored to literal tables:
--- `registerAt`, `allowed`, `next`, `acceptable`, `inSize` and `bit`. For row 9 it asks the machine itself.
+-- `registerAt`, `allowed`, `next`, `acceptable`, `inSize` and `bit`.
 --
 --    Rule, P ⇒ n         a row of the table: n, when P holds
 --    First rules n       "A number is given exactly when its line is true and no line before it in this order is."
@@ -59,10 +59,10 @@ BadSize a bs = (k : ℕ) × ((k < length bs) × ((place a k ≡ 0x03) × (accept
 abbrev pub NoKey : ℕ → ℕ → Type 0
 NoKey row col = (7 < row) ⊎ (12 < col)
 
--- "Order: 8; then 1, 2, 9 for a look; 3, 4, 5, 6 for an access; 7 for the held question."
+-- "Order: 8; then 1, 2, 9 for a look; 3, 4, 5, 6 for an access; 7 for the held question.": without 9, which is retired
 unfoldable pub rules : (M : Machine) → M .State → Call → List Rule
 rules M σ reset = []
-rules M σ (look s) = Unsound (M .parts σ) ⇒ 8 ∷ NotEight s ⇒ 1 ∷ HighBits s ⇒ 2 ∷ (M .astray σ s ≡ true) ⇒ 9 ∷ []
+rules M σ (look s) = Unsound (M .parts σ) ⇒ 8 ∷ NotEight s ⇒ 1 ∷ HighBits s ⇒ 2 ∷ []
 rules M σ (write a bs) = Unsound (M .parts σ) ⇒ 8 ∷ (length bs ≡ 0) ⇒ 3 ∷ (32 < length bs) ⇒ 4 ∷ NotAllowed Write a (length bs) ⇒ 5 ∷ BadSize a bs ⇒ 6 ∷ []
 rules M σ (read a out) = Unsound (M .parts σ) ⇒ 8 ∷ (length out ≡ 0) ⇒ 3 ∷ (32 < length out) ⇒ 4 ∷ NotAllowed Read a (length out) ⇒ 5 ∷ []
 rules M σ (held row col) = Unsound (M .parts σ) ⇒ 8 ∷ NoKey row col ⇒ 7 ∷ []

@@ -31,7 +31,7 @@ use Rattle.state.specs.declared.Module.{Module}
 use Rattle.state.specs.Module.{Queue, queue, queueOf, withKeys, withQueue, withRelint, fresh}
 use Rattle.state.specs.Queue.{waits, put, taken}
 use Rattle.flags.specs.Flags.{line}
-use Rattle.scan.specs.Scan.{contactAt, changesBelow, changes, strays, looked}
+use Rattle.scan.specs.Scan.{contactAt, changesBelow, changes, looked}
 use Rattle.access.specs.Bytes.{byteOf, readOut}
 use Rattle.access.specs.Accesses.{wrote, readAll, bytesRead}
 use Rattle.calls.specs.Calls.{lookNumber, writeNumber, readNumber, heldNumber, interruptNumber, outcome, answer, resetCall, heldCall}
@@ -40,7 +40,7 @@ use Rattle.demands.specs.Ours.{changing, asking, called}
 
 -- ours, but that the calls do this
 abbrev pub doing : (Module → Call → Gives Module) → Machine
-doing does = record { State = Module; start = fresh; parts = λ m. m; astray = strays; does = does }
+doing does = record { State = Module; start = fresh; parts = λ m. m; does = does }
 
 -- what the done calls do
 pub record Effects : Type 0 where
@@ -91,7 +91,6 @@ flagged e then =
       State = Marked;
       start = record { base = fresh; flag = false };
       parts = λ σ. σ .base;
-      astray = λ σ. strays (σ .base);
       does = λ σ c. carried (calledBy (e (σ .flag)) (σ .base) c) (then σ c);
     }
 

@@ -45,10 +45,6 @@ noKey = 7
 abbrev pub unsound : ℕ
 unsound = 8
 
--- "a change falls on a key out of the size"
-abbrev pub outOfSize : ℕ
-outOfSize = 9
-
 infix 70 _gives_
 pub data Line : Type 0 where
   _gives_ : Bool → ℕ → Line

@@ -26,6 +26,3 @@ pub const NO_KEY: u8 = 7;
 
 // All but reset: module state unsound.
 pub const UNSOUND: u8 = 8;
-
-// Look: a change falls on a key out of the size.
-pub const OUT_OF_SIZE: u8 = 9;

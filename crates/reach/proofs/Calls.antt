@@ -10,7 +10,7 @@
 use Prim.Native.Nat.{ℕ, zero, suc, _+_, _<_}
 use native.Mathlib.Omega.{arith}
 use mathlib.Core.Path.{_≡_, refl, sym, ap, _∙_, subst}
-use mathlib.Core.Bool.{Bool, true, false, not, _&&_}
+use mathlib.Core.Bool.{Bool, true, not, _&&_}
 use mathlib.Core.List.{List, [], _∷_}
 use borrow.Author.Tests.{leb-true, lt-ltb, ltb-true}
 use lib.Dec.{eqb, leb, ltb}
@@ -31,14 +31,12 @@ use Rattle.state.specs.declared.Module.{Module}
 use Rattle.state.specs.Typed.{Typed}
 use Rattle.sound.specs.Sound.{sound}
 use Rattle.sound.specs.Said.{Said}
-use Rattle.scan.specs.Scan.{strays}
 use Rattle.calls.specs.Calls.{lookLines, lookNumber, writeNumber, readNumber, outcome, lookCall, writeCall, readCall}
 use Rattle.demands.specs.Machine as machine
 use Rattle.demands.specs.Machine.{Call, reset, look, write, read, held, interrupt, wrotes, gots, happened, done, fits}
 use Rattle.demands.specs.Ours.{changing, called, ours}
 use Rattle.demands.specs.Shown.{shown}
 use Rattle.demands.proofs.Reached.{reached, reached-sound}
-use Rattle.demands.proofs.Meets.{ours-never-unsound}
 use Rattle.reach.proofs.Steps.{doable}
 use Rattle.reach.specs.Reach.{callable, ReachedBy}
 use Rattle.reach.proofs.Only.{only}
@@ -99,9 +97,9 @@ write-back RSTINTCLR e = refl
 write-back Unknown e = true-false (sym e)
 
 -- ---- each of them is done
-look-done : (m : Module) (s : List ℕ) → sound m ≡ true → strays m s ≡ false → eqb (length s) 8 ≡ true → all (λ x. not (high x)) s ≡ true → lookNumber m s ≡ 0
+look-done : (m : Module) (s : List ℕ) → sound m ≡ true → eqb (length s) 8 ≡ true → all (λ x. not (high x)) s ≡ true → lookNumber m s ≡ 0
 unfolding lookNumber lookLines sampleLines numberOf
-look-done m s a b c d = rw (a, c, d, b) refl
+look-done m s a c d = rw (a, c, d) refl
 
 may : (way : Access) (a : ℕ) → allowed way (registerAt a) ≡ true → runAllowed way a 1 ≡ true
 unfolding runAllowed addresses
@@ -193,7 +191,7 @@ module _ (cs : List Call) (good : all fits cs ≡ true) where
   call-done (looked s) e =
       let past = done ours cs in
       let both = and-left (eqb (length s) 8 && all (λ x. not (high x)) s) (all (λ x. ltb x 0x10000) s) (and-left (sampled s) (doable past) e) in
-      goes (look s) (look-done (machine.after ours cs) s (reached-sound cs good) (ours-never-unsound .nowhere cs s)
+      goes (look s) (look-done (machine.after ours cs) s (reached-sound cs good)
       (and-left (eqb (length s) 8) (all (λ x. not (high x)) s) both) (and-right (eqb (length s) 8) (all (λ x. not (high x)) s) both))
   call-done (wrote r b) e =
       let past = done ours cs in

@@ -4,27 +4,21 @@
 --    below-more                 one key more
 --    below-queue, below-some    what one key more does to the queue, and to whether there is a change
 --    looked-noticed             the state after a look: keys and queue, and the flags if there is a change
---    fits m s k                 key k is in the size, or doesn't change
---    stray-none                 no change falls on a key out of the size
---    no-strays                  none does if the keys out of the size are open and have no run
 -- Assumes nothing.
-use Prim.Native.Nat.{ℕ, _+_, _<_}
+use Prim.Native.Nat.{ℕ, _+_}
 use native.Mathlib.Numerals.{add-one}
 use mathlib.Core.Path.{_≡_, refl, sym, ap, _∙_}
-use mathlib.Core.Bool.{Bool, true, false, not, _||_}
+use mathlib.Core.Bool.{Bool, true, false, _||_}
 use mathlib.Core.List.{List, [], _∷_, _++_, append-nil}
-use lib.ListN.{getD}
-use Rattle.words.specs.Words.{_if_, _else_, allBelow, some}
-use Rattle.words.proofs.Laws.{true-false, below-all}
+use Rattle.words.specs.Words.{_if_, _else_, some}
+use Rattle.words.proofs.Laws.{true-false}
 use Rattle.words.proofs.Lists.{some-append}
-use Rattle.keys.specs.Keys.{code, keyIn, sample}
-use Rattle.keys.proofs.Laws.{sample-out}
-use Rattle.contact.specs.Contact.{opposite, stepped}
+use Rattle.keys.specs.Keys.{code, sample}
 use Rattle.state.specs.declared.Module.{Module}
 use Rattle.state.specs.Module.{Queue, queueOf, withQueue}
 use Rattle.state.specs.Queue.{put, putAll}
 use Rattle.state.proofs.Laws.{putAll-snoc}
-use Rattle.scan.specs.Scan.{contactAt, changesBelow, changes, strays, contacts, noticed, looked}
+use Rattle.scan.specs.Scan.{contactAt, changesBelow, changes, contacts, noticed, looked}
 
 -- of one code more, or none
 putAll-if : (q : Queue) (cs : List ℕ) (c : ℕ) (b : Bool) → putAll q (cs ++ ((c ∷ []) if b else [])) ≡ (put (putAll q cs) c if b else putAll q cs)
@@ -60,29 +54,3 @@ module _ (m : Module) (s : List ℕ) where
   unfolding looked contacts
   looked-noticed true e = rw e
   looked-noticed false e = rw e (ap (withQueue (contacts m s)) (sym (putAll-none (queueOf m) (changes m s) e)))
-
-module _ (m : Module) (s : List ℕ) where
-  -- key k is in the size, or doesn't change
-  unfoldable pub fits : ℕ → Bool
-  fits k = keyIn (m .size) k || not (contactAt m s k .changed)
-
-  fits-in : (k : ℕ) → keyIn (m .size) k ≡ true → fits k ≡ true
-  unfolding fits
-  fits-in k e = rw e
-
-  -- an open contact with no run stays so while its sample is open
-  fits-still : (k : ℕ) → keyIn (m .size) k ≡ false → (getD (m .held) k false ≡ false) × (getD (m .run) k 0 ≡ 0) → fits k ≡ true
-  unfolding fits contactAt stepped opposite
-  fits-still k e still = rw (e, still .0, still .1, sample-out s (m .size) k e)
-
-  pub stray-none : allBelow fits 104 ≡ true → strays m s ≡ false
-  unfolding strays fits
-  stray-none e = rw e
-
--- out of the size samples count as open, so a sound module has no change there
-pub no-strays : (m : Module) → ((k : ℕ) → k < 104 → keyIn (m .size) k ≡ false → (getD (m .held) k false ≡ false) × (getD (m .run) k 0 ≡ 0)) → (s : List ℕ) → strays m s ≡ false
-no-strays m still s = stray-none m s (below-all (fits m s) 104 (λ k h. go k h (keyIn (m .size) k) refl))
-  where
-    go : (k : ℕ) → k < 104 → (b : Bool) → keyIn (m .size) k ≡ b → fits m s k ≡ true
-    go k h true e = fits-in m s k e
-    go k h false e = fits-still m s k e (still k h e)

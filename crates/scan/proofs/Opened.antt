@@ -3,11 +3,11 @@ use mathlib.Core.Bool.{Bool, true}
 use Rattle.keys.proofs.Opened as keys
 use Rattle.contact.proofs.Opened as contact
 use Rattle.state.proofs.Opened as state
-use Rattle.scan.specs.Scan.{contactAt, changesBelow, changes, strays, contacts, noticed, looked}
-use Rattle.scan.specs.Walk.{counted, atKey, atRow, firstOut, fitsAt}
+use Rattle.scan.specs.Scan.{contactAt, changesBelow, changes, contacts, noticed, looked}
+use Rattle.scan.specs.Walk.{counted, atKey, atRow}
 
 unfoldable pub opened : Bool
 unfolding keys.opened contact.opened state.opened
-    contactAt changesBelow changes strays contacts noticed looked
-    counted atKey atRow firstOut fitsAt
+    contactAt changesBelow changes contacts noticed looked
+    counted atKey atRow
 opened = true

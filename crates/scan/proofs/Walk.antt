@@ -6,33 +6,27 @@
 --    done-row             from a row's first key to the next row's
 --    done-rest            the rows out of the size are still
 --    done-all             after the last key this is the state after the look
---    out-first            the keys of a row before `firstOut` fit
---    fits-yes             from one row to the next: no key of it is a stray
---    fits-no, fits-all    a stray is found, and none is found
 -- Assumes nothing.
-use Prim.Native.Nat.{ℕ, zero, suc, _+_, _-_, _*_, _/_, _%_, _<_, _≤_}
+use Prim.Native.Nat.{ℕ, zero, suc, _+_, _-_, _*_, _/_, _<_, _≤_}
 use native.Mathlib.Numerals.{add-one, unary-clauses}
 use native.Mathlib.Omega.{arith}
 use mathlib.Core.Path.{_≡_, refl, sym, ap, _∙_}
-use mathlib.Core.Bool.{Bool, true, false, not, or-false}
+use mathlib.Core.Bool.{Bool, false, or-false}
 use mathlib.Core.List.{List}
 use lib.ListN.{length, getD, set}
-use lib.Dec.{ltb}
 use lib.Seq.{set-getD}
-use borrow.Author.Tests.{lt-ltb, le-ltb, not-true, not-false}
-use Rattle.words.specs.Words.{_if_, _else_, allBelow, some, table}
-use Rattle.words.proofs.Laws.{below-all}
+use borrow.Author.Tests.{le-ltb}
+use Rattle.words.specs.Words.{_if_, _else_, some, table}
 use Rattle.words.proofs.Tables.{replaced, replaced-none, replaced-all, replaced-at, replaced-next}
 use Rattle.keys.specs.Keys.{inSize, keyIn, sample}
 use Rattle.keys.proofs.Laws.{place-row, place-col, row-yes, sample-out}
-use Rattle.keys.proofs.Rows.{rows-yes, rows-no}
 use Rattle.contact.specs.Contact.{opposite, stepped}
 use Rattle.state.specs.declared.Module.{Module}
 use Rattle.state.specs.Module.{queueOf, withKeys, withQueue}
 use Rattle.state.specs.Queue.{putAll}
-use Rattle.scan.specs.Scan.{contactAt, changesBelow, changes, strays, contacts, noticed, looked}
-use Rattle.scan.specs.Walk.{Parts, parts, counted, became, atKey, atRow, firstOut, fitsAt, Still}
-use Rattle.scan.proofs.Laws.{below-queue, below-some, looked-noticed, fits, stray-none}
+use Rattle.scan.specs.Scan.{contactAt, changesBelow, changes, contacts, noticed, looked}
+use Rattle.scan.specs.Walk.{Parts, parts, counted, became, atKey, atRow, Still}
+use Rattle.scan.proofs.Laws.{below-queue, below-some, looked-noticed}
 
 module _ (d size x row : ℕ) (p : Parts) where
   pub row-none : p ≡ atRow d size x row p 0
@@ -120,38 +114,3 @@ module _ (m : Module) (s : List ℕ) where
 
     pub done-all : (b : Bool) → p .any ≡ b → (noticed (withQueue (withKeys m (p .held) (p .run)) (p .queue)) if b else withQueue (withKeys m (p .held) (p .run)) (p .queue)) ≡ looked m s
     done-all b f = ap (λ (n : Module). noticed n if b else n) done-state ∙ sym (looked-noticed m s b (sym (ap (λ (o : Parts). o .any) done-parts) ∙ f))
-
-module _ (held : List Bool) (run : List ℕ) (size d row : ℕ) where
-  first-in : (col : ℕ) → col < firstOut size row → inSize size row col ≡ true
-  unfolding firstOut inSize
-  first-in col l = go (ltb row (size / 16)) refl
-    where
-      go : (b : Bool) → ltb row (size / 16) ≡ b → inSize size row col ≡ true
-      go true e = let low : col < size % 16 = rw e at l in rw (e, lt-ltb col (size % 16) low)
-      go false e = let none : col < 0 = rw e at l in absurd (omega arith)
-
-  pub out-first : allBelow (fitsAt held run size d row) (firstOut size row) ≡ true
-  unfolding fitsAt
-  out-first = below-all (fitsAt held run size d row) (firstOut size row) (λ col l. rw (first-in col l))
-
-module _ (m : Module) (s : List ℕ) where
-  module _ (row : ℕ) (h : row < 8) where
-    -- out of the size a sample counts as open
-    fits-place : (col : ℕ) → col < 13 → fits m s (13 * row + col) ≡ fitsAt (m .held) (m .run) (m .size) (m .bounce) row col
-    unfolding fits fitsAt contactAt keyIn sample
-    fits-place col l = go (inSize (m .size) row col) refl
-      where
-        go : (b : Bool) → inSize (m .size) row col ≡ b → fits m s (13 * row + col) ≡ fitsAt (m .held) (m .run) (m .size) (m .bounce) row col
-        go true e = rw (place-row row col (omega arith) (omega arith), place-col row col (omega arith) (omega arith), e)
-        go false e = rw (place-row row col (omega arith) (omega arith), place-col row col (omega arith) (omega arith), e)
-
-    module _ {b : Bool} (below : allBelow (fits m s) (13 * row) ≡ true) (e : b ≡ not (allBelow (fitsAt (m .held) (m .run) (m .size) (m .bounce) row) 13)) where
-      pub fits-yes : b ≡ false → allBelow (fits m s) (13 * (row + 1)) ≡ true
-      fits-yes f = rows-yes (fits m s) (fitsAt (m .held) (m .run) (m .size) (m .bounce) row) row h fits-place below (not-false _ (sym e ∙ f))
-
-      pub fits-no : b ≡ true → true ≡ strays m s
-      unfolding strays fits
-      fits-no f = rw (rows-no (fits m s) (fitsAt (m .held) (m .run) (m .size) (m .bounce) row) row h fits-place below (not-true _ (sym e ∙ f)))
-
-  pub fits-all : (k : ℕ) → k ≡ 104 → allBelow (fits m s) k ≡ true → false ≡ strays m s
-  fits-all k all below = sym (stray-none m s (sym (ap (allBelow (fits m s)) all) ∙ below))

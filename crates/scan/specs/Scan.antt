@@ -3,16 +3,15 @@
 --    contactAt m s k     what the look with samples s makes of key k's contact
 --    changesBelow m s n  the codes of the changes of the keys below n, by row, then by column
 --    changes m s         the codes of all the look's changes
---    strays m s          a change falls on a key out of the size
 --    contacts m s        the state with every key's contact as the look makes it
 --    noticed m           what a look with at least one change does to the flags
 --    looked m s          the state after the look
 use Prim.Native.Nat.{ℕ, zero, suc}
-use mathlib.Core.Bool.{Bool, true, false, not, _||_}
+use mathlib.Core.Bool.{true, false, _||_}
 use mathlib.Core.List.{List, [], _∷_, _++_}
 use lib.ListN.{getD}
-use Rattle.words.specs.Words.{_if_, _else_, allBelow, some, table}
-use Rattle.keys.specs.Keys.{code, keyIn, sample}
+use Rattle.words.specs.Words.{_if_, _else_, some, table}
+use Rattle.keys.specs.Keys.{code, sample}
 use Rattle.contact.specs.declared.Contact.{Contact}
 use Rattle.contact.specs.Contact.{stepped}
 use Rattle.state.specs.declared.Module.{Module}
@@ -29,10 +28,6 @@ changesBelow m s (suc k) = changesBelow m s k ++ ((code k (sample s (m .size) k)
 
 unfoldable pub changes : Module → List ℕ → List ℕ
 changes m s = changesBelow m s 104
-
--- "a change falls on a key out of the size"
-unfoldable pub strays : Module → List ℕ → Bool
-strays m s = not (allBelow (λ k. keyIn (m .size) k || not (contactAt m s k .changed)) 104)
 
 -- "The key counts as changed either way." [its change queued or dropped]
 unfoldable pub contacts : Module → List ℕ → Module

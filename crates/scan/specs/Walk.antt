@@ -4,15 +4,12 @@
 --    counted x size row col       a key's sample, x being its row's
 --    atKey d k closed p           the parts p after key k's sample, d being the bounce
 --    atRow d size x row p n       the parts p after the row's keys in columns below n
---    firstOut size row            the columns below this are in the size
---    fitsAt h r size d row col    a key is in the size, or doesn't change with an open sample
 --    Still m                      every key out of the size is open and has no run, and there are at most 8 rows
-use Prim.Native.Nat.{ℕ, zero, suc, _+_, _*_, _/_, _%_, _≤_, _<_}
+use Prim.Native.Nat.{ℕ, zero, suc, _+_, _*_, _/_, _≤_, _<_}
 use mathlib.Core.Path.{_≡_}
-use mathlib.Core.Bool.{Bool, false, not, _||_}
+use mathlib.Core.Bool.{Bool, false, _||_}
 use mathlib.Core.List.{List}
 use lib.ListN.{getD, set}
-use lib.Dec.{ltb}
 use Rattle.words.specs.Words.{_if_, _else_, bit}
 use Rattle.keys.specs.Keys.{code, inSize, keyIn}
 use Rattle.contact.specs.declared.Contact.{Contact}
@@ -45,12 +42,6 @@ atKey d k closed p = became k closed p (stepped (getD (p .held) k false) (getD (
 unfoldable pub atRow : ℕ → ℕ → ℕ → ℕ → Parts → ℕ → Parts
 atRow d size x row p zero = p
 atRow d size x row p (suc col) = atKey d (13 * row + col) (counted x size row col) (atRow d size x row p col)
-
-unfoldable pub firstOut : ℕ → ℕ → ℕ
-firstOut size row = size % 16 if ltb row (size / 16) else 0
-
-unfoldable pub fitsAt : List Bool → List ℕ → ℕ → ℕ → ℕ → ℕ → Bool
-fitsAt h r size d row col = inSize size row col || not (stepped (getD h (13 * row + col) false) (getD r (13 * row + col) 0) false d .changed)
 
 -- what soundness says of the keys that a look need not walk
 pub record Still (m : Module) : Type 0 where

@@ -3,20 +3,14 @@ use keys::COLS;
 use keys::Col;
 use keys::KEYS;
 use keys::ROW_KEYS;
-use keys::ROWS;
 use keys::Row;
 use state::Module;
 use state::PLACES;
 ghost use mathlib.Core.Path.{_≡_};
-ghost use mathlib.Core.Bool.{false, not, _||_};
-ghost use mathlib.Core.List.{List};
-ghost use Prim.Native.Nat.{ℕ, _<_, _+_, _*_};
+ghost use Prim.Native.Nat.{_<_, _+_, _*_};
 ghost use lib.ListN.{length};
-ghost use Rattle.words.specs.Words.{allBelow};
-ghost use Rattle.keys.specs.Keys.{inSize};
-ghost use Rattle.contact.specs.Contact.{stepped};
 ghost use Rattle.state.specs.Module.{queue};
-ghost use Rattle.scan.specs.Scan.{looked, noticed, strays};
+ghost use Rattle.scan.specs.Scan.{looked, noticed};
 ghost use Rattle.scan.specs.Walk as walk;
 ghost use Rattle.scan.specs.Walk.{parts};
 
@@ -153,64 +147,4 @@ pub fn looked(m: Module, samples: &[u16]) -> Module
         return noticed(after);
     }
     after
-}
-
-// The columns of a row below this one are in the size.
-fn first_out(size: u8, row: u8) -> u8
-    ensures { λ r. ⌜ r ≡ walk.firstOut size row ⌝ }
-{
-    if size / 16 <= row {
-        return 0;
-    }
-    size % 16
-}
-
-// Is a key out of the size, and does it change with an open sample? Only a held key does.
-fn is_stray(held: bool, run: u8, size: u8, bounce: u8, row: Row, col: Col) -> bool
-    ensures { λ r. ⌜ r ≡ not (inSize size (row .0) (col .0) || not (stepped held run false bounce .changed)) ⌝ }
-{
-    if !held {
-        return false;
-    }
-    if keys::is_in_size(size, row, col) {
-        return false;
-    }
-    let x = contact::step(held, run, false, bounce);
-    x.changed
-}
-
-// Is a key of this row out of the size, and does it change? Its sample counts as open.
-fn row_has_strays<'a>(
-    held: &'a [bool; KEYS],
-    run: &'a [u8; KEYS],
-    size: u8,
-    bounce: u8,
-    row: u8,
-) -> bool
-    requires { ⌜ row < 8 ⌝ }
-    ensures { λ r. ⌜ r ≡ not (allBelow (walk.fitsAt (now (held .entry)) (now (run .entry)) size bounce row) 13) ⌝ }
-{
-    let mut col = first_out(size, row);
-    while col < COLS {
-        let key = ROW_KEYS * (row as usize) + (col as usize);
-        if is_stray(held[key], run[key], size, bounce, Row(row), Col(col)) {
-            return true;
-        }
-        col = col + 1;
-    }
-    false
-}
-
-// Does a change fall on a key out of the size? Samples there count as open, whatever they are.
-pub fn has_strays(m: Module) -> bool
-    ensures { λ r. ⌜ ((samples : List ℕ) → r ≡ strays m samples) ⌝ }
-{
-    let mut row: u8 = 0;
-    while row < ROWS {
-        if row_has_strays(&m.held, &m.run, m.size, m.bounce, row) {
-            return true;
-        }
-        row = row + 1;
-    }
-    false
 }
