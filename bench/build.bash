@@ -7,15 +7,21 @@ failed() {
     exit 1
 }
 
-# The archive is built if it is missing or older than a source.
+# The archive and the player's are built if they are missing or older than a source.
 find_archive() {
-    archive=target/staticlib/libpanel.a
-    if [ -f "$archive" ]; then
-        newer=$(find crates crates.txt -newer "$archive") || failed "find ended with status $?"
+    archive=target/staticlib/libpanel.a player=target/staticlib/libplayer.a
+    build_archive panel "$archive"
+    build_archive player "$player"
+}
+
+# build_archive CRATE FILE
+build_archive() {
+    if [ -f "$2" ]; then
+        newer=$(find crates crates.txt -newer "$2") || failed "find ended with status $?"
         [ -n "$newer" ] || return 0
     fi
-    echo "the archive is missing or older than the sources: rt staticlib panel"
-    rt staticlib panel >"$work/log" 2>&1 || failed "rt staticlib panel"
+    echo "the archive is missing or older than the sources: rt staticlib $1"
+    rt staticlib "$1" >"$work/log" 2>&1 || failed "rt staticlib $1"
 }
 
 # compile LEVEL FILE OBJECT WORDS..: the toolchain's compiler, with the small headers of the C test.
@@ -29,12 +35,12 @@ compile() {
 compile_all() {
     compile -O2 plain.c plain_O2.o -DPLAIN=plain_O2
     compile -O3 plain.c plain_O3.o -DPLAIN=plain_O3
-    for name in faces cases time step stack cost harness same where; do
+    for name in faces cases time step stack cost harness same lists where; do
         compile -O2 $name.c $name.o
     done
 }
 
-# join PROGRAM OBJECT..: the objects, the plain C and the archive as one program.
+# join PROGRAM OBJECT..: the objects, the plain C and both archives as one program.
 join() {
     program=$1
     shift
@@ -43,7 +49,7 @@ join() {
         objects="$objects $work/$name.o"
     done
     # shellcheck disable=SC2086
-    "$joiner" --target "$target" --toolchain "$tools" -o "$work/$program" $objects "$archive" >"$work/log" 2>&1 || failed "$program doesn't link"
+    "$joiner" --target "$target" --toolchain "$tools" -o "$work/$program" $objects "$archive" "$player" >"$work/log" 2>&1 || failed "$program doesn't link"
     : >"$work/log"
 }
 

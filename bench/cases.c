@@ -5,7 +5,7 @@
 int printf(const char *format, ...);
 void *memset(void *to, int byte, size_t count);
 
-enum { STORM = 64 };
+enum { STORM = 64, LISTED = 64, ROOM = 1024 };
 
 /* The modules. */
 static struct panel calm;    /* size 8C, D 3, three keys held, nothing new */
@@ -34,11 +34,17 @@ static const uint16_t burst_looks[][8] = {{0x0FFF, 0x000F, 0, 0, 0, 0, 0, 0}};
 /* Samples with bit 13 set in the last row. */
 static const uint16_t high_looks[][8] = {{0x0002, 0, 0, 0x0020, 0, 0, 0, 0x2000}};
 
-#define LOOKS(name, start, looks, count, number) {name, LOOK, &(start), (const uint16_t(*)[8])(looks), sizeof(looks) / sizeof((looks)[0]), 0, {0, 0}, count, number}
-#define READS(name, start, first, count, number) {name, READ, &(start), 0, 1, first, {0, 0}, count, number}
-#define WRITES(name, start, first, byte, other, count, number) {name, WRITE, &(start), 0, 1, first, {byte, other}, count, number}
-#define ASKS(name, start, row, col, number) {name, HELD, &(start), 0, 1, row, {col, 0}, 0, number}
-#define LINE(name, start, number) {name, INTERRUPT, &(start), 0, 1, 0, {0, 0}, 0, number}
+/* A session: a write of KBDBOUNCE and KBDSIZE, then 64 looks of typing; and the same as a packed list. */
+static struct panel_call session[1 + LISTED];
+static uint8_t list[ROOM];
+static uint64_t list_length;
+
+#define LOOKS(name, start, looks, count, number) {name, LOOK, &(start), (const uint16_t(*)[8])(looks), sizeof(looks) / sizeof((looks)[0]), 0, {0, 0}, count, 0, number}
+#define READS(name, start, first, count, number) {name, READ, &(start), 0, 1, first, {0, 0}, count, 0, number}
+#define WRITES(name, start, first, byte, other, count, number) {name, WRITE, &(start), 0, 1, first, {byte, other}, count, 0, number}
+#define ASKS(name, start, row, col, number) {name, HELD, &(start), 0, 1, row, {col, 0}, 0, 0, number}
+#define LINE(name, start, number) {name, INTERRUPT, &(start), 0, 1, 0, {0, 0}, 0, 0, number}
+#define CARRIES(name, call, calls, count, room, number) {name, call, &full, 0, calls, 0, {0, 0}, count, room, number}
 
 const struct measured cases[] = {
     LOOKS("look: calm", calm, calm_looks, 8, 0),
@@ -59,7 +65,12 @@ const struct measured cases[] = {
     WRITES("write: KBDIC", full, PANEL_KBDIC, 0x03, 0, 1, 0),
     WRITES("write: KBDMSK", full, PANEL_KBDMSK, 0x0A, 0, 1, 0),
     WRITES("write: RSTINTCLR", full, PANEL_RSTINTCLR, 0x01, 0, 1, 0),
-    {"reset", RESET, &full, 0, 1, 0, {0, 0}, 0, 0},
+    {"reset", RESET, &full, 0, 1, 0, {0, 0}, 0, 0, 0},
+    CARRIES("pack: 64 looks", PACK, 1, LISTED, ROOM, 0),
+    CARRIES("pack next: a look", PACK_NEXT, LISTED, 0, ROOM, 0),
+    CARRIES("unpack: a look", UNPACK, LISTED, 0, 0, 0),
+    CARRIES("play: 64 looks", PLAY, 1, 0, 0, 0),
+    CARRIES("play: declined 20", PLAY, 1, 1, 0, 20),
     LOOKS("declined 1: look", calm, calm_looks, 7, 1),
     LOOKS("declined 2: look", calm, high_looks, 8, 2),
     READS("declined 3: read", full, PANEL_EVTCODE, 0, 3),
@@ -75,6 +86,8 @@ const struct measured cases[] = {
     READS("declined 8: read", unsound, PANEL_EVTCODE, 15, 8),
     ASKS("declined 8: held", unsound, 7, 12, 8),
     LINE("declined 8: interrupt", unsound, 8),
+    CARRIES("declined 21: pack", PACK, 1, LISTED, 99, 21),
+    CARRIES("declined 21: pack next", PACK_NEXT, 1, 0, 13, 21),
 };
 
 const unsigned case_count = sizeof cases / sizeof cases[0];
@@ -141,10 +154,31 @@ static void make_modules(void)
     memset(unsound.seen, 1, sizeof unsound.seen);
 }
 
-/* The module, buffer and answer that the calls are made on. */
+/* The session, and its list. */
+static void make_session(void)
+{
+    unsigned look, row;
+    session[0].kind = PANEL_WRITE;
+    session[0].first = PANEL_KBDBOUNCE;
+    session[0].count = 2;
+    session[0].values[0] = 3;
+    session[0].values[1] = 0x8C;
+    for (look = 0; look < LISTED; look++) {
+        session[1 + look].kind = PANEL_LOOK;
+        session[1 + look].count = PANEL_ROWS;
+        for (row = 0; row < PANEL_ROWS; row++)
+            session[1 + look].values[row] = typing_looks[look % (sizeof typing_looks / sizeof typing_looks[0])][row];
+    }
+    gave(panel_pack(session, 1 + LISTED, list, sizeof list, &list_length));
+}
+
+/* The module, buffer, answer, call and place that the calls are made on. */
 static struct panel panel;
-static uint8_t buffer[64];
+static uint8_t buffer[ROOM];
 static bool yes;
+static uint64_t length;
+static struct panel_call call;
+static struct panel_place place;
 
 /* One call of a turn. */
 static uint8_t make(const struct face *face, const struct measured *measured, unsigned at)
@@ -160,6 +194,14 @@ static uint8_t make(const struct face *face, const struct measured *measured, un
         return face->held(&panel, panel_row(measured->first), panel_col(measured->bytes[0]), &yes);
     case INTERRUPT:
         return face->interrupt(&panel, &yes);
+    case PACK:
+        return face->pack(session + 1, measured->count, buffer, measured->room, &length);
+    case PACK_NEXT:
+        return face->pack_next(session + 1 + at, buffer, measured->room, &place);
+    case UNPACK:
+        return face->unpack(list, list_length - measured->count, &place, &call, &yes);
+    case PLAY:
+        return face->play(&panel, list, list_length - measured->count);
     default:
         return face->reset(&panel);
     }
@@ -170,6 +212,7 @@ uint8_t turn(const struct face *face, const struct measured *measured)
     unsigned at;
     uint8_t number = 0;
     panel = *measured->start;
+    place.byte = place.bit = 0;
     for (at = 0; at < measured->calls; at++)
         number = make(face, measured, at);
     return number;
@@ -180,6 +223,7 @@ bool prepare(const struct face *const *faces, unsigned face_count)
     unsigned i, face;
     make_storm();
     make_modules();
+    make_session();
     if (declined != PANEL_DONE) {
         printf("a module of the cases can't be made: a call gives %u\n", declined);
         return false;

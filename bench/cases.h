@@ -4,7 +4,7 @@
 
 #include "face.h"
 
-enum call { RESET, LOOK, WRITE, READ, HELD, INTERRUPT };
+enum call { RESET, LOOK, WRITE, READ, HELD, INTERRUPT, PACK, PACK_NEXT, UNPACK, PLAY };
 
 struct measured {
     const char *name;
@@ -14,7 +14,8 @@ struct measured {
     unsigned calls;              /* how many calls one turn makes */
     uint8_t first;               /* WRITE, READ: the first address; HELD: the row */
     uint8_t bytes[33];           /* WRITE: the bytes; HELD: the column */
-    size_t count;                /* LOOK, WRITE, READ: how many samples or bytes */
+    size_t count;                /* LOOK, WRITE, READ: how many samples or bytes; PACK: calls; UNPACK, PLAY: bytes less than the list has */
+    size_t room;                 /* PACK, PACK_NEXT: bytes of the buffer */
     uint8_t number;              /* the number that each call gives */
 };
 

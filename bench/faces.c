@@ -1,14 +1,35 @@
 /* The archive as a table, and the calls that do nothing. */
 #include "face.h"
 
-/* The header's inline function, as a function that has an address. */
+/* The header's inline functions, as functions that have an address. */
 static uint8_t proved_reset(struct panel *panel)
 {
     return panel_reset(panel);
 }
 
+static uint8_t proved_pack(const struct panel_call *calls, uint64_t count, uint8_t *out, uint64_t room, uint64_t *length)
+{
+    return panel_pack(calls, count, out, room, length);
+}
+
+static uint8_t proved_pack_next(const struct panel_call *call, uint8_t *out, uint64_t room, struct panel_place *place)
+{
+    return panel_pack_next(call, out, room, place);
+}
+
+static uint8_t proved_unpack(const uint8_t *bytes, uint64_t count, struct panel_place *place, struct panel_call *call, bool *end)
+{
+    return panel_unpack(bytes, count, place, call, end);
+}
+
+static uint8_t proved_play(struct panel *panel, const uint8_t *bytes, uint64_t count)
+{
+    return panel_play(panel, bytes, count);
+}
+
 /* The others are the archive's own. */
-const struct face proved = {"proved", proved_reset, panel_look, panel_write, panel_read, panel_held, panel_interrupt};
+const struct face proved = {"proved", proved_reset, panel_look, panel_write, panel_read, panel_held, panel_interrupt,
+                            proved_pack, proved_pack_next, proved_unpack, proved_play};
 
 /* Calls that do nothing: the cost of a turn without them. */
 static uint8_t idle_reset(struct panel *panel)
@@ -47,4 +68,28 @@ static uint8_t idle_interrupt(const struct panel *panel, bool *yes)
     return PANEL_DONE;
 }
 
-const struct face idle = {"idle", idle_reset, idle_look, idle_write, idle_read, idle_held, idle_interrupt};
+static uint8_t idle_pack(const struct panel_call *calls, uint64_t count, uint8_t *out, uint64_t room, uint64_t *length)
+{
+    (void)calls, (void)count, (void)out, (void)room, (void)length;
+    return PANEL_DONE;
+}
+
+static uint8_t idle_pack_next(const struct panel_call *call, uint8_t *out, uint64_t room, struct panel_place *place)
+{
+    (void)call, (void)out, (void)room, (void)place;
+    return PANEL_DONE;
+}
+
+static uint8_t idle_unpack(const uint8_t *bytes, uint64_t count, struct panel_place *place, struct panel_call *call, bool *end)
+{
+    (void)bytes, (void)count, (void)place, (void)call, (void)end;
+    return PANEL_DONE;
+}
+
+static uint8_t idle_play(struct panel *panel, const uint8_t *bytes, uint64_t count)
+{
+    (void)panel, (void)bytes, (void)count;
+    return PANEL_DONE;
+}
+
+const struct face idle = {"idle", idle_reset, idle_look, idle_write, idle_read, idle_held, idle_interrupt, idle_pack, idle_pack_next, idle_unpack, idle_play};

@@ -1,5 +1,5 @@
 /*
- * The key module in plain C, from document 01: what a firmware engineer would write over `struct panel`.
+ * The key module in plain C, from document 01, and the packed list of document 02: what a firmware engineer would write over `struct panel`.
  * It judges and does the same as the archive.
  */
 #include "face.h"
@@ -415,8 +415,241 @@ static uint8_t plain_interrupt(const struct panel *panel, bool *yes)
     return PANEL_DONE;
 }
 
+/* The number that a call of a list is declined with, whatever the module. */
+static uint8_t judge_call(const struct panel_call *call)
+{
+    switch (call->kind & 3) {
+    case PANEL_LOOK:
+        if (call->count != PANEL_ROWS)
+            return PANEL_NOT_EIGHT;
+        return samples_narrow(call->values) ? PANEL_DONE : PANEL_HIGH_BITS;
+    case PANEL_RESET:
+        return PANEL_DONE;
+    default:
+        if (call->count < 1)
+            return PANEL_NO_BYTES;
+        return call->count > PANEL_BYTES ? PANEL_TOO_MANY : PANEL_DONE;
+    }
+}
+
+/* How many bits its record has. */
+static unsigned bits_of(const struct panel_call *call)
+{
+    switch (call->kind & 3) {
+    case PANEL_LOOK:
+        return 2 + 8 * 13;
+    case PANEL_WRITE:
+        return 15 + 8u * call->count;
+    case PANEL_READ:
+        return 15;
+    default:
+        return 2;
+    }
+}
+
+/* The place so many bits on. */
+static void go_on(struct panel_place *place, unsigned bits)
+{
+    place->byte += (place->bit + bits) >> 3;
+    place->bit = (uint8_t)((place->bit + bits) & 7);
+}
+
+/* The low bits of a number at a place, most significant first, byte by byte; bits left in the last byte become 0. */
+static void put_bits(uint8_t *out, struct panel_place *place, unsigned value, unsigned width)
+{
+    while (width > 0) {
+        unsigned left = 8u - place->bit, n = width < left ? width : left;
+        unsigned kept = place->bit > 0 ? out[place->byte] >> left << left : 0;
+        width -= n;
+        out[place->byte] = (uint8_t)(kept | (value >> width & ((1u << n) - 1)) << (left - n));
+        go_on(place, n);
+    }
+}
+
+/* The number that the bits at a place spell. */
+static unsigned get_bits(const uint8_t *bytes, struct panel_place *place, unsigned width)
+{
+    unsigned value = 0;
+    while (width > 0) {
+        unsigned left = 8u - place->bit, n = width < left ? width : left;
+        width -= n;
+        value = value << n | (bytes[place->byte] >> (left - n) & ((1u << n) - 1));
+        go_on(place, n);
+    }
+    return value;
+}
+
+/* The record of a call that fits, at a place. */
+static void put_call(uint8_t *out, struct panel_place *place, const struct panel_call *call)
+{
+    unsigned i, kind = call->kind & 3;
+    put_bits(out, place, kind, 2);
+    if (kind == PANEL_LOOK) {
+        for (i = 0; i < PANEL_ROWS; i++)
+            put_bits(out, place, call->values[i], 13);
+    }
+    if (kind == PANEL_WRITE || kind == PANEL_READ) {
+        put_bits(out, place, call->first, 8);
+        put_bits(out, place, call->count - 1u, 5);
+    }
+    if (kind == PANEL_WRITE) {
+        for (i = 0; i < call->count; i++)
+            put_bits(out, place, call->values[i], 8);
+    }
+}
+
+/* A list of calls: judged and measured, then packed. */
+static uint8_t plain_pack(const struct panel_call *calls, uint64_t count, uint8_t *out, uint64_t room, uint64_t *length)
+{
+    struct panel_place end = {0, 0}, place = {0, 0};
+    uint64_t i;
+    *length = 0;
+    for (i = 0; i < count; i++) {
+        uint8_t number = judge_call(&calls[i]);
+        if (number != PANEL_DONE)
+            return number;
+        go_on(&end, bits_of(&calls[i]));
+    }
+    if (panel_packed(end) > room)
+        return PANEL_NO_ROOM;
+    for (i = 0; i < count; i++)
+        put_call(out, &place, &calls[i]);
+    *length = panel_packed(end);
+    return PANEL_DONE;
+}
+
+/* One call more. */
+static uint8_t plain_pack_next(const struct panel_call *call, uint8_t *out, uint64_t room, struct panel_place *place)
+{
+    struct panel_place end = *place;
+    uint8_t number = judge_call(call);
+    if (number != PANEL_DONE)
+        return number;
+    if (place->bit > 7 || place->byte > room)
+        return PANEL_NO_ROOM;
+    go_on(&end, bits_of(call));
+    if (panel_packed(end) > room)
+        return PANEL_NO_ROOM;
+    put_call(out, place, call);
+    return PANEL_DONE;
+}
+
+/* Are there so many bits more from a place on? */
+static bool are_left(uint64_t count, const struct panel_place *place, unsigned bits)
+{
+    struct panel_place end = *place;
+    go_on(&end, bits);
+    return panel_packed(end) <= count;
+}
+
+/* Fewer than eight bits, all 0. */
+static bool is_end(const uint8_t *bytes, uint64_t count, const struct panel_place *place)
+{
+    struct panel_place at = *place;
+    if (are_left(count, place, 8))
+        return false;
+    return place->byte == count || get_bits(bytes, &at, 8u - at.bit) == 0;
+}
+
+/* How many bits the record at a place has; false if they aren't all there. */
+static bool record_bits(const uint8_t *bytes, uint64_t count, const struct panel_place *place, unsigned *bits)
+{
+    struct panel_place at = *place;
+    struct panel_call call;
+    if (!are_left(count, place, 2))
+        return false;
+    call.kind = (uint16_t)get_bits(bytes, &at, 2);
+    call.count = 0;
+    if (call.kind == PANEL_WRITE && are_left(count, place, 15)) {
+        go_on(&at, 8);
+        call.count = (uint16_t)(get_bits(bytes, &at, 5) + 1);
+    }
+    *bits = bits_of(&call);
+    return are_left(count, place, *bits);
+}
+
+/* The call of a record that is all there. */
+static void get_call(const uint8_t *bytes, struct panel_place *place, struct panel_call *call)
+{
+    unsigned i;
+    memset(call, 0, sizeof *call);
+    call->kind = (uint16_t)get_bits(bytes, place, 2);
+    if (call->kind == PANEL_LOOK) {
+        call->count = PANEL_ROWS;
+        for (i = 0; i < PANEL_ROWS; i++)
+            call->values[i] = (uint16_t)get_bits(bytes, place, 13);
+    }
+    if (call->kind == PANEL_WRITE || call->kind == PANEL_READ) {
+        call->first = (uint16_t)get_bits(bytes, place, 8);
+        call->count = (uint16_t)(get_bits(bytes, place, 5) + 1);
+    }
+    if (call->kind == PANEL_WRITE) {
+        for (i = 0; i < call->count; i++)
+            call->values[i] = (uint16_t)get_bits(bytes, place, 8);
+    }
+}
+
+/* The call at a place, or the end. */
+static uint8_t plain_unpack(const uint8_t *bytes, uint64_t count, struct panel_place *place, struct panel_call *call, bool *end)
+{
+    unsigned bits;
+    *end = false;
+    if (place->bit > 7 || place->byte > count || !are_left(count, place, 0))
+        return PANEL_CUT_SHORT;
+    *end = is_end(bytes, count, place);
+    if (*end)
+        return PANEL_DONE;
+    if (!record_bits(bytes, count, place, &bits))
+        return PANEL_CUT_SHORT;
+    get_call(bytes, place, call);
+    return PANEL_DONE;
+}
+
+/* One call of a list, done or declined. */
+static void make_call(struct panel *panel, const struct panel_call *call)
+{
+    uint8_t bytes[PANEL_BYTES];
+    unsigned i;
+    switch (call->kind) {
+    case PANEL_LOOK:
+        plain_look(panel, call->values, call->count);
+        break;
+    case PANEL_WRITE:
+        for (i = 0; i < call->count; i++)
+            bytes[i] = (uint8_t)call->values[i];
+        plain_write(panel, (uint8_t)call->first, bytes, call->count);
+        break;
+    case PANEL_READ:
+        plain_read(panel, (uint8_t)call->first, bytes, call->count);
+        break;
+    default:
+        plain_reset(panel);
+        break;
+    }
+}
+
+/* A packed list, seen through from record to record, then played. */
+static uint8_t plain_play(struct panel *panel, const uint8_t *bytes, uint64_t count)
+{
+    struct panel_place end = {0, 0}, place = {0, 0};
+    struct panel_call call;
+    unsigned bits;
+    while (!is_end(bytes, count, &end)) {
+        if (!record_bits(bytes, count, &end, &bits))
+            return PANEL_CUT_SHORT;
+        go_on(&end, bits);
+    }
+    plain_reset(panel);
+    while (place.byte != end.byte || place.bit != end.bit) {
+        get_call(bytes, &place, &call);
+        make_call(panel, &call);
+    }
+    return PANEL_DONE;
+}
+
 /* The build gives PLAIN: the table's name at this level. */
 #define WORD(name) #name
 #define WORDS(name) WORD(name)
 
-const struct face PLAIN = {WORDS(PLAIN), plain_reset, plain_look, plain_write, plain_read, plain_held, plain_interrupt};
+const struct face PLAIN = {WORDS(PLAIN), plain_reset, plain_look, plain_write, plain_read, plain_held, plain_interrupt,
+                           plain_pack, plain_pack_next, plain_unpack, plain_play};

@@ -1,8 +1,8 @@
 /*
  * Do the archive and the plain C give the same answers? Random calls on random modules, sound and unsound:
- * the number, every byte of the module, every byte of the buffer and the answer are compared after each.
+ * the number, every byte of the module, every byte of the buffer and the answer are compared after each. What carries a session stands in lists.c.
  */
-#include "face.h"
+#include "lists.h"
 #include "modules.h"
 
 int printf(const char *format, ...);
@@ -217,8 +217,11 @@ static bool all_given(void)
 /* Both levels of the plain C, and whether every number was met. */
 int main(void)
 {
-    if (!compare(&proved, &plain_O2) || !compare(&proved, &plain_O3))
+    if (!compare(&proved, &plain_O2) || !compare(&proved, &plain_O3) || !compare_lists(&proved, &plain_O2) || !compare_lists(&proved, &plain_O3))
         return 1;
     printf("the same answers: %u random calls of the archive and of the plain C at -O2, and as many at -O3\n", CALLS);
-    return all_given() ? 0 : 1;
+    if (!all_given())
+        return 1;
+    printf("the same answers: %u random lists, packed, unpacked and played, at each level\n", LISTS);
+    return all_lists_given() ? 0 : 1;
 }

@@ -10,12 +10,26 @@ END {
     }
 
     print "\nWhat a call takes, exactly (the same in every run): instructions, calls of memcpy and bytes that they copy, bytes of stack:\n"
-    print "| Case                       | proved | C -O2 | C -O3 | to -O2 | to -O3 | memcpy | bytes | of C | stack | C -O2 | C -O3 |"
-    print "|----------------------------|-------:|------:|------:|-------:|-------:|-------:|------:|-----:|------:|------:|------:|"
+    print "| Case                       | proved |  C -O2 |  C -O3 | to -O2 | to -O3 | memcpy | bytes | of C | stack | C -O2 | C -O3 |"
+    print "|----------------------------|-------:|-------:|-------:|-------:|-------:|-------:|------:|-----:|------:|------:|------:|"
     for (i = 1; i <= cases; i++) {
         n = names[i]
-        printf "| %-26s | %6.0f | %5.0f | %5.0f | %6.2f | %6.2f |", n, cost[n, 1], cost[n, 5], cost[n, 9], cost[n, 1] / cost[n, 5], cost[n, 1] / cost[n, 9]
+        printf "| %-26s | %6.0f | %6.0f | %6.0f | %6.2f | %6.2f |", n, cost[n, 1], cost[n, 5], cost[n, 9], cost[n, 1] / cost[n, 5], cost[n, 1] / cost[n, 9]
         printf " %6.0f | %5.0f | %4.0f | %5d | %5d | %5d |\n", cost[n, 2], cost[n, 3], cost[n, 6], cost[n, 4], cost[n, 8], cost[n, 12]
     }
+    print ""
+    day("packed all at once", "pack: 64 looks", 64)
+    day("packed one by one", "pack next: a look", 1)
+    day("unpacked", "unpack: a look", 1)
+    day("played", "play: 64 looks", 64)
+    print ""
+}
+
+# A day of looks, one every 4 ms, worked out from a case that has so many of them.
+function day(how, name, looks,    a_look, c_look) {
+    a_look = cost[name, 1] / looks
+    c_look = cost[name, 5] / looks
+    printf "A day of looks, 21.6 million, %s: %.0f instructions a look, %.1f thousand million in all (plain C at -O2 %.0f and %.1f)", how, a_look, a_look * 0.0216, c_look, c_look * 0.0216
+    if (name in links) printf "; %.1f s (%.1f s)", median(name, 1) / looks * 0.0216, median(name, 2) / looks * 0.0216
     print ""
 }

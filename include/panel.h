@@ -9,16 +9,22 @@
  *     number = panel_look(&panel, samples, PANEL_ROWS);
  *     number = panel_read(&panel, PANEL_EVTCODE, codes, sizeof codes);
  *
+ * A session can be carried to another place: its calls are packed, one by one or all at once, and a panel that plays the list ends as this one:
+ *
+ *     number = panel_pack_next(&call, list, sizeof list, &place);
+ *     number = panel_play(&other, list, panel_packed(place));
+ *
  * Each call gives a number. PANEL_DONE: the call was done. Any other: it was declined, neither the module nor a byte of the buffer is altered,
  * and a question's answer is no. A number is given exactly when its condition holds and none before it in the call's list does.
  *
- * Link with libpanel.a, which `rt staticlib panel` writes for x86-64. It needs memcpy and the like, and nothing else.
+ * Link with libpanel.a, which `rt staticlib panel` writes for x86-64; panel_play is in libplayer.a, by `rt staticlib player`, so that a panel that
+ * only records does without it. They need memcpy and the like, and nothing else.
  *
- * What the six calls do is proved, for every module, every argument and every length. Outside the proof, and so for the caller to see to:
+ * What the ten calls do is proved, for every module, every argument and every length. Outside the proof, and so for the caller to see to:
  *   - every bool of a `struct panel`, and the bool that takes an answer, is the byte 0 or 1 before the call. Soundness doesn't see another
- *     byte there, so ask panel_bools_ok of a module that comes from storage; panel_reset alone asks nothing of the memory that it fills;
+ *     byte there, so ask panel_bools_ok of a module that comes from storage; panel_reset and panel_play ask nothing of the memory that they fill;
  *   - a pointer is valid for its length, and not null, also when the length is 0 and when the call is declined;
- *   - module, samples, bytes, buffer and answer don't overlap;
+ *   - module, samples, bytes, buffer and answer don't overlap, nor do calls, packed list, length, place and end;
  *   - one call at a time on one module, interrupt routines included, and the questions too: a call in the midst of another sees half of it.
  *     Calls on two modules never meet;
  *   - the C compiler, and the inline functions of this file.
@@ -34,8 +40,8 @@
  * This header's version, 10000 x first + 100 x second + third. The first rises when a caller must be changed or compiled again: another layout,
  * another meaning of a call. The second rises when something is added, the third when only words change. Header and archive are of one version.
  */
-#define PANEL_VERSION 20000
-#define PANEL_VERSION_TEXT "2.0.0"
+#define PANEL_VERSION 20100
+#define PANEL_VERSION_TEXT "2.1.0"
 
 /* On a call that gives a number: the compiler warns if nobody looks at it. */
 #if defined(__GNUC__)
@@ -58,7 +64,9 @@ enum panel_number {
     PANEL_NOT_ALLOWED = 5, /* access: some address of the run is unknown, or can't be read or written as asked */
     PANEL_BAD_SIZE = 6,    /* write: a byte for KBDSIZE isn't acceptable */
     PANEL_NO_KEY = 7,      /* held question: row above 7 or column above 12 */
-    PANEL_UNSOUND = 8      /* all but reset: the module isn't sound; never after calls from reset alone */
+    PANEL_UNSOUND = 8,     /* look, access, question: the module isn't sound; never after calls from reset alone */
+    PANEL_CUT_SHORT = 20,  /* packed list: cut short or padded wrongly */
+    PANEL_NO_ROOM = 21     /* packing: the buffer is too short */
 };
 
 /* The registers, by the data sheet's names. Every other address is unknown. */
@@ -98,7 +106,8 @@ enum panel_count {
     PANEL_COLS = 13, /* column 12 is the row's special function key */
     PANEL_KEYS = 104,
     PANEL_PLACES = 15, /* codes that can wait */
-    PANEL_BYTES = 32   /* the most that an access carries */
+    PANEL_BYTES = 32,  /* the most that an access carries */
+    PANEL_RECORD = 34  /* the most bytes that a call takes in a packed list: a write of 32; a look takes 13.25 */
 };
 
 /*
@@ -127,6 +136,28 @@ struct panel_row {
 
 struct panel_col {
     uint8_t col;
+};
+
+/* The kinds of a call in a list. */
+enum panel_kind {
+    PANEL_LOOK = 0,
+    PANEL_WRITE = 1,
+    PANEL_READ = 2,
+    PANEL_RESET = 3
+};
+
+/* A call of a list, 70 bytes. What is beyond the count isn't looked at, and a reset is its kind alone. */
+struct panel_call {
+    uint16_t kind;       /* a panel_kind; modulo 4 */
+    uint16_t first;      /* write, read: the first address; modulo 256 */
+    uint16_t count;      /* look: how many samples; write, read: how many bytes */
+    uint16_t values[32]; /* look: the samples, as they are; write: the bytes, modulo 256 */
+};
+
+/* A place in a packed list: so many bytes, and 0 to 7 bits more. Its beginning is {0, 0}. */
+struct panel_place {
+    uint64_t byte;
+    uint8_t bit;
 };
 
 /*
@@ -167,6 +198,27 @@ struct panel_done {
 
 struct panel_done *panel_reset_value(struct panel_done *made);
 
+/* What the calls of a session carried make; panel_pack, panel_pack_next, panel_unpack and panel_play below are the calls to use. */
+struct panel_written {
+    uint64_t byte; /* how far the list is written, the length of a whole one, 0 if it is declined */
+    uint64_t bit;
+    uint64_t number;
+};
+
+struct panel_record {
+    struct panel_call call;
+    uint64_t byte; /* the place behind it */
+    uint8_t bit;
+    uint8_t number;
+    bool end; /* the list ends here, and there is no call */
+};
+
+/* Each fills its struct and hands the pointer back. A call is 35 numbers, a list of n calls 35 x n. */
+struct panel_written *panel_pack_numbers(struct panel_written *made, const uint16_t *numbers, uint64_t count, uint8_t *out, uint64_t room);
+struct panel_written *panel_add_numbers(struct panel_written *made, const uint16_t *call, uint8_t *out, uint64_t room, uint64_t byte, uint8_t bit);
+struct panel_record *panel_unpack_value(struct panel_record *made, const uint8_t *bytes, uint64_t count, uint64_t byte, uint8_t bit);
+struct panel_done *panel_play_value(struct panel_done *made, const uint8_t *bytes, uint64_t count);
+
 /* Refused, by a name that tells what is wrong, if the compiler lays the structs out otherwise than the archive. */
 #define PANEL_SEEN(name, fact) typedef char name[(fact) ? 1 : -1]
 #define PANEL_AT(field, place) PANEL_SEEN(panel_##field##_is_at_##place, offsetof(struct panel, field) == (place))
@@ -187,6 +239,23 @@ PANEL_SEEN(panel_done_after_is_at_0, offsetof(struct panel_done, after) == 0);
 PANEL_SEEN(panel_done_number_is_at_235, offsetof(struct panel_done, number) == 235);
 PANEL_SEEN(panel_done_is_236_bytes, sizeof(struct panel_done) == 236);
 PANEL_SEEN(panel_row_and_col_are_a_byte_each, sizeof(struct panel_row) == 1 && sizeof(struct panel_col) == 1);
+#define PANEL_IN(type, field, place) PANEL_SEEN(panel_##type##_##field##_is_at_##place, offsetof(struct panel_##type, field) == (place))
+PANEL_SEEN(panel_call_is_70_bytes, sizeof(struct panel_call) == 70);
+PANEL_IN(call, kind, 0);
+PANEL_IN(call, first, 2);
+PANEL_IN(call, count, 4);
+PANEL_IN(call, values, 6);
+PANEL_SEEN(panel_written_is_24_bytes, sizeof(struct panel_written) == 24);
+PANEL_IN(written, byte, 0);
+PANEL_IN(written, bit, 8);
+PANEL_IN(written, number, 16);
+PANEL_SEEN(panel_record_is_88_bytes, sizeof(struct panel_record) == 88);
+PANEL_IN(record, call, 0);
+PANEL_IN(record, byte, 72);
+PANEL_IN(record, bit, 80);
+PANEL_IN(record, number, 81);
+PANEL_IN(record, end, 82);
+#undef PANEL_IN
 #undef PANEL_AT
 #undef PANEL_SEEN
 
@@ -209,6 +278,70 @@ static inline uint8_t panel_reset(struct panel *panel)
     panel_reset_value(&done);
     *panel = done.after;
     return done.number;
+}
+
+/*
+ * Packs a list of calls into the buffer: the list at the front, `length` bytes of it, and the rest as it was. Declined: the length is 0.
+ * Numbers: that of the first call in the list that one of PANEL_NOT_EIGHT, PANEL_HIGH_BITS, PANEL_NO_BYTES, PANEL_TOO_MANY declines; then PANEL_NO_ROOM,
+ * else PANEL_DONE. No other number of a call is looked for: a list may hold calls that a module declines.
+ */
+PANEL_NUMBER static inline uint8_t panel_pack(const struct panel_call *calls, uint64_t count, uint8_t *out, uint64_t room, uint64_t *length)
+{
+    struct panel_written made;
+    panel_pack_numbers(&made, (const uint16_t *)calls, count * (sizeof *calls / sizeof(uint16_t)), out, room);
+    *length = made.byte;
+    return (uint8_t)made.number;
+}
+
+/*
+ * Packs one call more, at a place of the buffer, and moves the place behind it; bits that are left in its last byte become 0, so that the list can end there.
+ * All other bytes stay. From {0, 0} on, call by call, it is the list that panel_pack makes. Declined: the place stays too.
+ * Numbers: PANEL_NOT_EIGHT, PANEL_HIGH_BITS, PANEL_NO_BYTES, PANEL_TOO_MANY, PANEL_NO_ROOM (also for a place that is none), else PANEL_DONE.
+ */
+PANEL_NUMBER static inline uint8_t panel_pack_next(const struct panel_call *call, uint8_t *out, uint64_t room, struct panel_place *place)
+{
+    struct panel_written made;
+    panel_add_numbers(&made, (const uint16_t *)call, out, room, place->byte, place->bit);
+    place->byte = made.byte;
+    place->bit = (uint8_t)made.bit;
+    return (uint8_t)made.number;
+}
+
+/* How many bytes a list has that is packed up to this place. */
+static inline uint64_t panel_packed(struct panel_place place)
+{
+    return place.byte + (place.bit > 0);
+}
+
+/*
+ * The call at a place of a packed list, and the place is moved behind it; or `end`: the list ends there, and call and place stay.
+ * What isn't in the call's record is 0. It looks at this place alone: whether all of it is a list, going on to the end tells.
+ * Numbers: PANEL_CUT_SHORT (neither a whole record nor the end is there; also for a place that is none; `end` is no), else PANEL_DONE.
+ */
+PANEL_NUMBER static inline uint8_t panel_unpack(const uint8_t *bytes, uint64_t count, struct panel_place *place, struct panel_call *call, bool *end)
+{
+    struct panel_record made;
+    panel_unpack_value(&made, bytes, count, place->byte, place->bit);
+    *end = made.end;
+    if (made.number != PANEL_DONE || made.end)
+        return made.number;
+    *call = made.call;
+    place->byte = made.byte;
+    place->bit = made.bit;
+    return PANEL_DONE;
+}
+
+/*
+ * Plays a packed list: the module is as after a reset and the list's calls, each done or declined, whatever the memory held before. Bytes read are dropped.
+ * Numbers: PANEL_CUT_SHORT (no call is made, and the module stays), else PANEL_DONE.
+ */
+PANEL_NUMBER static inline uint8_t panel_play(struct panel *panel, const uint8_t *bytes, uint64_t count)
+{
+    struct panel_done made;
+    panel_play_value(&made, bytes, count);
+    if (made.number == PANEL_DONE)
+        *panel = made.after;
+    return made.number;
 }
 
 /* Are the 112 bool bytes of a restored module 0 or 1? They are read as bytes; what else makes it unsound, a call tells. */

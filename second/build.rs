@@ -1,6 +1,8 @@
-//! Plants the errors of tests/planted: for each edit a copy of src/module.rs or src/console.rs, the
-//! file that it names, with the edit in it, and planted.rs, which lists them all. Only
-//! tests/planted.rs takes them in.
+//! Plants the errors of tests/planted: for each edit a copy of the file that it names, with the edit
+//! in it, and planted.rs, which lists them all. Only tests/planted.rs takes them in.
+//!
+//! A console can be made over any module. What else it is made of stands in its text, so an edit
+//! there brings a copy of the console along that uses the edited copy.
 
 use std::env::var;
 use std::fs::{read_dir, read_to_string, write};
@@ -10,27 +12,44 @@ const MODULE: &str = "src/module.rs";
 const CONSOLE: &str = "src/console.rs";
 const EDITS: &str = "tests/planted";
 
+/// The files that can be edited.
+const FILES: [&str; 4] = [MODULE, CONSOLE, "src/carry.rs", "src/typed.rs"];
+
 /// Writes the copies and their list.
 fn main() {
-    for input in [MODULE, CONSOLE, EDITS] {
+    for input in FILES.iter().chain(&[EDITS]) {
         println!("cargo:rerun-if-changed={input}");
     }
-    let out = var("OUT_DIR").unwrap();
     let (mut modules, mut entries) = (String::new(), String::new());
     for name in names() {
-        let path = Path::new(&out).join(format!("{name}.rs"));
         let (file, text) = planted(&name);
-        write(&path, text).unwrap();
         let ident = name.replace('-', "_");
-        modules += &format!("#[allow(warnings)]\n#[path = {path:?}]\nmod {ident};\n");
+        modules += &module(&ident, &text);
         let console = match file {
+            MODULE => format!("Console::over(Box::new({ident}::Module::new()))"),
             CONSOLE => format!("{ident}::Console::new()"),
-            _ => format!("Console::over(Box::new({ident}::Module::new()))"),
+            _ => {
+                modules += &module(&format!("{ident}_console"), &console_over(file, &ident));
+                format!("{ident}_console::Console::new()")
+            }
         };
         entries += &format!("    ({name:?}, |script| Box::new({console}.answers(script))),\n");
     }
     let list = format!("const PLANTED: &[Planted] = &[\n{entries}];\n");
-    write(Path::new(&out).join("planted.rs"), modules + &list).unwrap();
+    write(Path::new(&var("OUT_DIR").unwrap()).join("planted.rs"), modules + &list).unwrap();
+}
+
+/// Writes a copy, and gives the lines that take it in as a module.
+fn module(ident: &str, text: &str) -> String {
+    let path = Path::new(&var("OUT_DIR").unwrap()).join(format!("{ident}.rs"));
+    write(&path, text).unwrap();
+    format!("#[allow(warnings)]\n#[path = {path:?}]\nmod {ident};\n")
+}
+
+/// The console's text with an edited copy in the place of a file that it uses.
+fn console_over(file: &str, ident: &str) -> String {
+    let used = file.replace("src/", "use crate::").replace(".rs", "::");
+    read_to_string(CONSOLE).unwrap().replace(&used, &format!("use crate::{ident}::"))
 }
 
 /// The names of the planted errors, in order.
@@ -49,7 +68,7 @@ fn planted(name: &str) -> (&'static str, String) {
     let path = format!("{EDITS}/{name}.edit");
     let edit = read_to_string(&path).unwrap();
     let named = |file: &&str| edit.lines().any(|line| line == format!("file: {file}"));
-    let file = [MODULE, CONSOLE].into_iter().find(named).unwrap_or(MODULE);
+    let file = FILES.into_iter().find(named).unwrap_or(MODULE);
     match edited(&edit, file) {
         Ok(text) => (file, text),
         Err(wrong) => (file, format!("compile_error!({:?});\n", format!("{path}: {wrong}"))),

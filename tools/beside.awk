@@ -54,9 +54,26 @@ function words_of(line, answer,    word, given, n) {
     return word[1] == "read" ? read_words(value(word[2]), given, n) : ""
 }
 
+# a text from a column on, in as many lines as it needs; from its second line on it is set in further
+function fold(text, column, further,    word, n, i, line) {
+    n = split(text, word, " ")
+    line = sprintf("%" column "s", "")
+    for (i = 1; i <= n; i++) {
+        if (i > 1 && length(line) + 1 + length(word[i]) > width) { print line; line = sprintf("%" column + further "s", "") word[i]; continue }
+        line = line (i > 1 ? " " : "") word[i]
+    }
+    print line
+}
+
 # a line, its answer, and the words to the right of it, in as many lines as they need
 function show(left, answer, words,    line, word, n, i, filled) {
     line = padded(shown(left), answer_column) answer
+    if (length(line) > width) {
+        fold(shown(left), 0, 4)
+        fold(answer, answer_column, 0)
+        line = ""
+        if (words == "") return
+    }
     n = split(words, word, " ")
     if (n && length(line) > words_column - 2) { print line; line = "" }
     for (i = 1; i <= n; i++) {

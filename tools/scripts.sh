@@ -4,6 +4,9 @@
 # see_scripts FILE..: ends with one sentence if one can't be read.
 see_scripts() {
     for script in "$@"; do
+        case $script in
+        --record | --play) failed "a script that is shown takes no $script: ./panel $script FILE < SCRIPT" ;;
+        esac
         [ -e "$script" ] || failed "there is no file $script"
         [ -f "$script" ] && [ -r "$script" ] || failed "$script can't be read as a script"
     done

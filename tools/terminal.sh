@@ -45,7 +45,7 @@ answers() {
     echo
 }
 
-# The console, with a prompt before each command.
+# talk WORDS..: the console, with a prompt before each command.
 talk() {
-    { typed | run | answers; } 3>&1
+    { typed | run "$@" | answers; } 3>&1
 }

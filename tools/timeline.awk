@@ -1,6 +1,6 @@
 # A session drawn: looks across, keys down. The console's answers to shows.awk's script come in; ENVIRON has the script's name (SCRIPT).
 # words.awk comes before it.
-# A column, three wide, is a look, a reset or a write of KBDSIZE; the looks of a `press`, `release` or `wait` are one column, with the number
+# A column, three wide, is a look, a reset, a write of KBDSIZE or a list that was played; the looks of a `press`, `release` or `wait` are one column, with the number
 # of the last, since a contact that stays as it is makes its key change once at most. A declined look takes a column too, marked x, but no
 # number: nothing has happened to the panel.
 # Every key that is ever held has a row: its code in the look in which it was believed, a bar while it is held, its code in the look
@@ -69,7 +69,7 @@ function look_declined(    key) {
     for (key in held) cell[key, width] = "==="
 }
 
-# a reset or a write of KBDSIZE: every key is open, and the codes that waited are gone
+# a reset, a write of KBDSIZE or a list that was played: every key was opened, and the codes that waited are gone
 function restarted(mark,    key) {
     width++
     host[width] = mark (waited > waits ? waited - waits : "")
@@ -86,6 +86,7 @@ function call_done(    word, n, made, first, key) {
         if (answer == "0") looks_done(made); else look_declined()
     }
     if (word[1] == "reset" && answer == "0") restarted("R")
+    if (word[1] == "play" && answer == "0") { restarted("P"); played = 1 }
     if (word[1] == "write" && answer == "0" && first <= 3 && first + n - 2 > 3) restarted("S")
     if (word[1] == "read" && waits < waited) fetched[width] += waited - waits
     split("", held)
@@ -143,9 +144,10 @@ function block_out(from, to,    i, key) {
 
 END {
     if (expected != "answer" || next_asked()) { print "no answer to line " at " of the script"; bad = 1 }
-    if (!width) print "nothing to draw: no look, no reset and no write of KBDSIZE\n"
+    if (!width) print "nothing to draw: no look, no reset, no write of KBDSIZE and no list played\n"
     for (from = 1; from <= width; from += columns) block_out(from, from + columns - 1 < width ? from + columns - 1 : width)
     print "05= pressed, === held, 85 let go, ** its code was dropped, | opened by R or S; x a declined look"
     print "host: codes fetched after the look; R a reset, S a write of KBDSIZE, with the codes that it emptied"
+    if (played) print "P: a packed list was played, behind a reset"
     exit bad
 }

@@ -1,4 +1,4 @@
-//! The six calls of document 01, which a console makes of its module.
+//! The six calls of document 01, which a console makes of its module, and a call as a value.
 
 /// What any key module answers: a number for each call, and a question's answer with it.
 pub trait Calls {
@@ -19,4 +19,31 @@ pub trait Calls {
 
     /// The question whether the interrupt line is asserted.
     fn interrupt(&self) -> (u8, bool);
+}
+
+/// A call with what it is given. Questions are not among them.
+#[derive(Clone, Debug, PartialEq)]
+pub enum Call {
+    Reset,
+    /// The samples.
+    Look(Vec<u16>),
+    /// The first address, and the bytes from there on.
+    Write(u8, Vec<u8>),
+    /// The first address, and how many bytes are lent.
+    Read(u8, usize),
+}
+
+impl Call {
+    /// Makes the call of a module: its number, and the buffer of a read.
+    pub fn made(&self, module: &mut dyn Calls) -> (u8, Vec<u8>) {
+        match self {
+            Call::Reset => (module.reset(), Vec::new()),
+            Call::Look(samples) => (module.look(samples), Vec::new()),
+            Call::Write(first, bytes) => (module.write(*first, bytes), Vec::new()),
+            Call::Read(first, count) => {
+                let mut buffer = vec![0; *count];
+                (module.read(*first, &mut buffer), buffer)
+            }
+        }
+    }
 }

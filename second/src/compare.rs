@@ -4,8 +4,12 @@
 //! A difference is shown twice: where it came up, and at the end of a script cut down to what
 //! leads to it.
 
+use crate::calls::Call;
+use crate::carry::{pack, unpack};
 use crate::console::{end, Console};
 use crate::script::Line;
+use crate::typed::{calls, list, spaced, text};
+use crate::words::{shown, words};
 use std::ffi::OsString;
 use std::io::{self, Write};
 use std::process::{Command, Stdio};
@@ -90,7 +94,7 @@ pub fn cut_down(script: &[Line], differs: &mut Differs) -> Vec<Line> {
     loop {
         chunk = (chunk / 2).max(1);
         let dropped = drop_chunks(&mut kept, chunk, differs);
-        if chunk == 1 && !dropped && !quieten(&mut kept, differs) {
+        if chunk == 1 && !dropped && !quieten(&mut kept, differs) && !shorten(&mut kept, differs) {
             return kept;
         }
     }
@@ -153,6 +157,59 @@ fn with_row_masked(line: &[u8], row: usize, mask: u16) -> Option<Line> {
     samples[row] &= mask;
     let words: Vec<String> = samples.iter().map(|sample| format!("{sample:04X}")).collect();
     Some(format!("look {}", words.join(" ")).into_bytes())
+}
+
+/// Leaves calls out of the lists, half of a list first. Of very long lists some are left that are
+/// not needed.
+fn shorten(kept: &mut Vec<Line>, differs: &mut Differs) -> bool {
+    let mut changed = false;
+    for line in 0..kept.len() {
+        let most = kept.get(line).and_then(|line| calls_of(line)).map_or(0, |calls| calls.len());
+        let mut count = most;
+        while count > most / 64 {
+            changed |= leave_out(kept, line, count, differs);
+            count /= 2;
+        }
+    }
+    changed
+}
+
+/// Leaves every stretch of `count` calls out of a line's list that is not needed.
+fn leave_out(kept: &mut Vec<Line>, line: usize, count: usize, differs: &mut Differs) -> bool {
+    let (mut changed, mut place) = (false, 0);
+    while let Some(shorter) = kept.get(line).and_then(|line| without_calls(line, place, count)) {
+        let mut candidate = kept.clone();
+        candidate[line] = shorter;
+        if keep_if(kept, candidate, differs) {
+            changed = true;
+        } else {
+            place += count;
+        }
+    }
+    changed
+}
+
+/// The calls of a line's list, if it has one.
+fn calls_of(line: &[u8]) -> Option<Vec<Call>> {
+    match words(line).as_slice() {
+        [b"pack", _, rest @ ..] => calls(rest).ok(),
+        [b"unpack" | b"play", rest @ ..] => unpack(&list(rest).ok()?),
+        _ => None,
+    }
+}
+
+/// A line with fewer calls in its list, if it has any from that place on.
+fn without_calls(line: &[u8], place: usize, count: usize) -> Option<Line> {
+    let mut calls = calls_of(line).filter(|calls| place < calls.len())?;
+    calls.drain(place..calls.len().min(place + count));
+    let line = match words(line).as_slice() {
+        [b"pack", room, ..] => {
+            let texts: Vec<String> = calls.iter().map(text).collect();
+            format!("pack {} {}", shown(room), texts.join(" ; "))
+        }
+        words => format!("{}{}", shown(words.first()?), spaced(&pack(&calls, usize::MAX).ok()?)),
+    };
+    Some(line.into_bytes())
 }
 
 /// Compares a program with the second module on a script. Says whether they are the same.

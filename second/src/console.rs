@@ -2,11 +2,13 @@
 //!
 //! Input is bytes of any kind, in pieces of any length. A line is answered as soon as it is
 //! complete; one line is all that is kept. Beside the module are the contacts, as fingers leave
-//! them.
+//! them, and the calls made so far, if the session is recorded.
 
-use crate::calls::Calls;
+use crate::calls::{Call, Calls};
+use crate::carry::{judge, pack, unpack, NO_LIST};
 use crate::module::Module;
-use crate::words::{byte, bytes, none, number, one, place, samples, shown, two, words, Wrong};
+use crate::typed::{call, calls, list, spaced, text};
+use crate::words::{byte, none, number, one, place, shown, two, words, Wrong};
 
 /// The longest line that is held, before its newline, a CR included.
 pub const LONGEST: usize = 16_384;
@@ -14,11 +16,16 @@ pub const LONGEST: usize = 16_384;
 /// The most looks that one line can wait for.
 const LONGEST_WAIT: u32 = 65_535;
 
+/// The largest room that a list can be packed for.
+const LARGEST_ROOM: u32 = 999_999;
+
 /// A module, the contacts it looks at, and the line that is being received.
 pub struct Console {
     module: Box<dyn Calls>,
     /// A sample for each row, with a bit set for each closed contact.
     contacts: [u16; 8],
+    /// The calls made that fit in a list, if the session is recorded.
+    record: Option<Vec<Call>>,
     line: Vec<u8>,
     /// Whether `quit` has ended the input.
     ended: bool,
@@ -43,7 +50,17 @@ impl Console {
     /// A console that begins with this module and with all contacts open.
     pub fn over(module: Box<dyn Calls>) -> Console {
         let (contacts, line) = ([0; 8], Vec::new());
-        Console { module, contacts, line, ended: false, complained: false }
+        Console { module, contacts, record: None, line, ended: false, complained: false }
+    }
+
+    /// Records the session from here on.
+    pub fn record(&mut self) {
+        self.record = Some(Vec::new());
+    }
+
+    /// The packed list of the session as it was recorded.
+    pub fn recorded(&self) -> Vec<u8> {
+        pack(self.record.as_deref().unwrap_or_default(), usize::MAX).unwrap_or_default()
     }
 
     /// Whether `quit` has ended the input.
@@ -131,15 +148,15 @@ impl Console {
     /// Does a command with its words.
     fn command(&mut self, name: &[u8], words: &[&[u8]]) -> Answer {
         match name {
-            b"reset" => none(words).map(|_| self.module.reset().to_string()),
-            b"look" => self.look(words),
+            b"reset" | b"look" | b"write" | b"read" => Ok(self.ask(call(name, words)?)),
             b"press" => self.press(words),
             b"release" => self.release(words),
             b"wait" => self.wait(words),
-            b"write" => self.write(words),
-            b"read" => self.read(words),
             b"held" => self.held(words),
             b"irq" => none(words).map(|_| question(self.module.interrupt())),
+            b"pack" => answer_pack(words),
+            b"unpack" => answer_unpack(words),
+            b"play" => Ok(self.play(&list(words)?).to_string()),
             // `show` and `help` have no counterpart here.
             b"help" if words == [b"numbers"] => Ok(".".to_string()),
             b"show" | b"help" => none(words).map(|_| ".".to_string()),
@@ -147,14 +164,31 @@ impl Console {
         }
     }
 
-    /// `look S0 S1 ..`
-    fn look(&mut self, words: &[&[u8]]) -> Answer {
-        let samples = samples(words)?;
-        let number = self.module.look(&samples);
-        if number == 0 {
-            self.contacts.iter_mut().zip(samples).for_each(|(row, sample)| *row = sample);
+    /// `reset`, `look S0 S1 ..`, `write AA B0 B1 ..` or `read AA COUNT`
+    fn ask(&mut self, call: Call) -> String {
+        match self.make(call) {
+            (0, bytes) => format!("0{}", spaced(&bytes)),
+            (number, _) => number.to_string(),
         }
-        Ok(number.to_string())
+    }
+
+    /// Makes a call. A look that is done sets the contacts.
+    fn make(&mut self, call: Call) -> (u8, Vec<u8>) {
+        let (number, bytes) = call.made(self.module.as_mut());
+        if let Call::Look(samples) = &call {
+            if number == 0 {
+                self.contacts.iter_mut().zip(samples).for_each(|(row, sample)| *row = *sample);
+            }
+        }
+        self.keep(call);
+        (number, bytes)
+    }
+
+    /// Keeps a call if the session is recorded and a list can hold it.
+    fn keep(&mut self, call: Call) {
+        if let Some(record) = self.record.as_mut().filter(|_| judge(&call) == 0) {
+            record.push(call);
+        }
     }
 
     /// `press ROW COL`
@@ -186,29 +220,8 @@ impl Console {
 
     /// Looks that many times at the contacts as they are, up to the first look that is declined.
     fn looks(&mut self, count: u32) -> String {
-        let mut numbers = (0..count).map(|_| self.module.look(&self.contacts));
+        let mut numbers = (0..count).map(|_| self.make(Call::Look(self.contacts.into())).0);
         numbers.find(|number| *number != 0).unwrap_or(0).to_string()
-    }
-
-    /// `write AA B0 B1 ..`
-    fn write(&mut self, words: &[&[u8]]) -> Answer {
-        let (first, rest) = words.split_first().ok_or("too few words")?;
-        let (first, bytes) = (byte(first, 16)?, bytes(rest)?);
-        Ok(self.module.write(first, &bytes).to_string())
-    }
-
-    /// `read AA COUNT`
-    fn read(&mut self, words: &[&[u8]]) -> Answer {
-        let (address, count) = two(words)?;
-        let address = byte(address, 16)?;
-        let mut buffer = vec![0; number(count, 10, 1024)? as usize];
-        let mut answer = self.module.read(address, &mut buffer).to_string();
-        if answer == "0" {
-            for byte in buffer {
-                answer.push_str(&format!(" {byte:02X}"));
-            }
-        }
-        Ok(answer)
     }
 
     /// `held ROW COL`
@@ -217,6 +230,38 @@ impl Console {
         let asked = (byte(row, 10)?, byte(column, 10)?);
         Ok(question(self.module.held(asked.0, asked.1)))
     }
+
+    /// `play HEX..`, and a list from elsewhere: a reset, and then its calls, whatever they answer.
+    pub fn play(&mut self, list: &[u8]) -> u8 {
+        let calls = match unpack(list) {
+            Some(calls) => calls,
+            None => return NO_LIST,
+        };
+        self.make(Call::Reset);
+        for call in calls {
+            self.make(call);
+        }
+        0
+    }
+}
+
+/// `pack ROOM CALL ; CALL ..`
+fn answer_pack(words: &[&[u8]]) -> Answer {
+    let (room, rest) = words.split_first().ok_or("too few words")?;
+    let (room, calls) = (number(room, 10, LARGEST_ROOM)?, calls(rest)?);
+    Ok(match pack(&calls, room as usize) {
+        Ok(list) => format!("0{}", spaced(&list)),
+        Err(number) => number.to_string(),
+    })
+}
+
+/// `unpack HEX..`
+fn answer_unpack(words: &[&[u8]]) -> Answer {
+    Ok(match unpack(&list(words)?).as_deref() {
+        None => NO_LIST.to_string(),
+        Some([]) => "0".to_string(),
+        Some(calls) => format!("0 {}", calls.iter().map(text).collect::<Vec<_>>().join(" ; ")),
+    })
 }
 
 /// The answer to a question.

@@ -1,10 +1,12 @@
 //! A second key module and what is needed to compare another one with it.
 
 pub mod calls;
+pub mod carry;
 pub mod chance;
 pub mod compare;
 pub mod console;
 pub mod malformed;
 pub mod module;
 pub mod script;
+pub mod typed;
 pub mod words;

@@ -2,10 +2,14 @@
 //!
 //! A script is a row of stretches of 50 to 400 lines. Each has a regime: typing, fingers on the
 //! panel, a storm of changes, picture reading, patience under a long bounce, settings that churn,
-//! registers at random, calls that are declined. The contacts go on from one stretch to the next.
+//! registers at random, calls that are declined, lists that are carried. The contacts go on from one
+//! stretch to the next.
 
+mod carry;
 mod fingers;
+mod lists;
 
+use crate::calls::Call;
 use crate::chance::Chance;
 use crate::malformed::Malformed;
 
@@ -45,7 +49,7 @@ const BAD_SIZES: [u8; 10] = [0x1C, 0x2D, 0x92, 0x81, 0x21, 0x12, 0x00, 0xFF, 0x9
 type Regime = (fn(&mut Maker), fn(&mut Maker));
 
 /// The regimes; those that are there twice are taken twice as often.
-const REGIMES: [Regime; 11] = [
+const REGIMES: [Regime; 14] = [
     (Maker::begin_typing, Maker::type_keys),
     (Maker::begin_typing, Maker::type_keys),
     (Maker::begin_fingers, Maker::move_fingers),
@@ -54,9 +58,12 @@ const REGIMES: [Regime; 11] = [
     (Maker::begin_storm, Maker::storm),
     (Maker::begin_pictures, Maker::see_pictures),
     (Maker::begin_patience, Maker::have_patience),
+    (Maker::begin_patience, Maker::have_patience),
     (Maker::begin_typing, Maker::churn),
     (Maker::begin_pictures, Maker::try_registers),
     (Maker::begin_storm, Maker::be_declined),
+    (Maker::begin_typing, Maker::carry),
+    (Maker::begin_pictures, Maker::carry),
 ];
 
 /// Ways to quit.
@@ -217,26 +224,32 @@ impl Maker {
         }
     }
 
-    /// A reset.
-    fn reset(&mut self) {
-        self.say(vec!["reset".to_string()]);
-        self.size = 0x22;
+    /// The words of a call.
+    fn typed(&mut self, call: &Call) -> Vec<String> {
+        match call {
+            Call::Reset => vec!["reset".to_string()],
+            Call::Look(samples) => {
+                let mut words = vec!["look".to_string()];
+                words.extend(samples.iter().map(|sample| self.hex(*sample, 4)));
+                words
+            }
+            Call::Write(first, bytes) => {
+                let mut words = vec!["write".to_string(), self.hex((*first).into(), 2)];
+                words.extend(bytes.iter().map(|byte| self.hex((*byte).into(), 2)));
+                words
+            }
+            Call::Read(first, count) => {
+                vec!["read".to_string(), self.hex((*first).into(), 2), self.decimal(*count)]
+            }
+        }
     }
 
-    /// A look of these samples.
-    fn say_look(&mut self, samples: &[u16]) {
-        let mut words = vec!["look".to_string()];
-        words.extend(samples.iter().map(|sample| self.hex(*sample, 4)));
-        self.say(words);
-    }
-
-    /// A write of these bytes. The size in force is kept in mind.
-    fn write(&mut self, first: u8, bytes: &[u8]) {
-        let mut words = vec!["write".to_string(), self.hex(first.into(), 2)];
-        words.extend(bytes.iter().map(|byte| self.hex((*byte).into(), 2)));
-        self.say(words);
-        let size = match (first, bytes) {
-            (0x03, [size]) | (0x02, [_, size]) => *size,
+    /// Keeps the size in mind that is in force behind a call.
+    fn heed(&mut self, call: &Call) {
+        let size = match call {
+            Call::Reset => 0x22,
+            Call::Write(0x03, bytes) if bytes.len() == 1 => bytes[0],
+            Call::Write(0x02, bytes) if bytes.len() == 2 => bytes[1],
             _ => return,
         };
         if (2..=8).contains(&(size >> 4)) && (2..=12).contains(&(size & 0x0F)) {
@@ -244,18 +257,43 @@ impl Maker {
         }
     }
 
-    /// A write of that many bytes that suit their registers.
-    fn write_some(&mut self, first: u8, count: usize) {
-        let start = usize::from(first);
-        let bytes: Vec<u8> =
-            (start..start + count).map(|address| self.some_byte(address)).collect();
-        self.write(first, &bytes);
+    /// A call.
+    fn make(&mut self, call: Call) {
+        let words = self.typed(&call);
+        self.say(words);
+        self.heed(&call);
+    }
+
+    /// A reset.
+    fn reset(&mut self) {
+        self.make(Call::Reset);
+    }
+
+    /// A look of these samples.
+    fn say_look(&mut self, samples: &[u16]) {
+        self.make(Call::Look(samples.to_vec()));
+    }
+
+    /// A write of these bytes.
+    fn write(&mut self, first: u8, bytes: &[u8]) {
+        self.make(Call::Write(first, bytes.to_vec()));
     }
 
     /// A read of that many bytes.
     fn read(&mut self, first: u8, count: usize) {
-        let words = vec!["read".to_string(), self.hex(first.into(), 2), self.decimal(count)];
-        self.say(words);
+        self.make(Call::Read(first, count));
+    }
+
+    /// That many bytes that suit their registers.
+    fn some_bytes(&mut self, first: u8, count: usize) -> Vec<u8> {
+        let start = usize::from(first);
+        (start..start + count).map(|address| self.some_byte(address)).collect()
+    }
+
+    /// A write of that many bytes that suit their registers.
+    fn write_some(&mut self, first: u8, count: usize) {
+        let bytes = self.some_bytes(first, count);
+        self.write(first, &bytes);
     }
 
     /// A question for a key, most often in the size.
@@ -366,6 +404,19 @@ impl Maker {
         self.read(0x10, count);
     }
 
+    /// Fetches all codes, and sees which flags are left.
+    fn drain(&mut self) {
+        self.read(0x10, 32);
+        self.read(0x06, 1);
+        if self.chance.one_in(3) {
+            self.read(0x0B, 4);
+            self.read(0x06, 1);
+        }
+        if self.chance.one_in(2) {
+            self.clear();
+        }
+    }
+
     /// Clears flags.
     fn clear(&mut self) {
         let low = self.chance.pick(&[0, 1, 1, 2, 2, 3, 3]);
@@ -448,7 +499,7 @@ impl Maker {
         self.looks(2);
         match self.chance.below(8) {
             0..=1 => self.fetch(),
-            2 => self.read(0x10, 32),
+            2 => self.drain(),
             3 => self.serve(),
             4 => self.clear(),
             _ => self.probe(),
@@ -592,21 +643,25 @@ impl Maker {
 
     /// A look that is not eight samples, or with high bits.
     fn decline_look(&mut self) {
-        let samples = self.samples();
+        let samples = self.bad_samples();
+        self.say_look(&samples);
+    }
+
+    /// Samples that are mostly not eight, or have high bits.
+    fn bad_samples(&mut self) -> Vec<u16> {
+        let mut list = self.samples().to_vec();
         if self.chance.one_in(2) {
             let count = self.chance.pick(&[0, 1, 7, 8, 9, 16, 264]);
-            let mut list: Vec<u16> = samples.iter().cycle().take(count).copied().collect();
+            list = list.into_iter().cycle().take(count).collect();
             if count > 0 && self.chance.one_in(4) {
                 let place = self.chance.below(count);
                 list[place] |= 0x2000;
             }
-            self.say_look(&list);
         } else {
-            let mut list = samples;
             let row = self.chance.below(8);
             list[row] |= self.chance.pick(&[0x2000, 0x4000, 0x8000, 0xE000]);
-            self.say_look(&list);
         }
+        list
     }
 
     /// A read that mostly can't be done.

@@ -6,10 +6,14 @@ pub type Wrong = String;
 /// How much is shown of a word.
 const SHOWN: usize = 20;
 
-/// The words of a line, between blanks and tabs. One carriage return at its end is ignored.
+/// The words of a line. One carriage return at its end is ignored.
 pub fn words(line: &[u8]) -> Vec<&[u8]> {
-    let line = line.strip_suffix(b"\r").unwrap_or(line);
-    let words = line.split(|byte| *byte == b' ' || *byte == b'\t');
+    apart(line.strip_suffix(b"\r").unwrap_or(line))
+}
+
+/// The words between blanks and tabs.
+pub fn apart(text: &[u8]) -> Vec<&[u8]> {
+    let words = text.split(|byte| *byte == b' ' || *byte == b'\t');
     words.filter(|word| !word.is_empty()).collect()
 }
 

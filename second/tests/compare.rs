@@ -1,7 +1,7 @@
 //! How answers and ends are compared and scripts are cut down.
 
 use second::compare::{cut_down, difference};
-use second::console::end;
+use second::console::{end, Console};
 use second::script::Line;
 
 /// Lines from texts.
@@ -77,4 +77,29 @@ fn only_what_leads_to_the_difference_is_kept() {
     script.extend(lines(&["b", "b", "c", "b", "c", "a"]));
     let expected = ["a", "look 0000 0000 0001 0000 0000 0000 0000 0000", "c"];
     assert_eq!(cut_down(&script, &mut differs), lines(&expected));
+}
+
+#[test]
+fn only_the_calls_that_lead_to_the_difference_are_kept() {
+    // A stand-in that goes wrong at a list with a read of EVTCODE and a write behind it.
+    let calls = |line: &Line| match line.starts_with(b"unpack") {
+        true => Console::new().answer(line).unwrap(),
+        false => String::from_utf8_lossy(line).into_owned(),
+    };
+    let mut differs = |script: &[Line]| {
+        script.iter().map(calls).position(|calls| {
+            let read = calls.find("read 10");
+            read.map_or(false, |read| calls[read..].contains("write"))
+        })
+    };
+    for (line, short) in [
+        (
+            "pack 99 reset;read 10 1;look 0 0 0 0 0 0 0 0;read 10 2;write 02 01;reset",
+            "pack 99 read 10 2 ; write 02 01",
+        ),
+        // 11, 10 00010000 00000, 01 10000100 00000 00000001, and the last two of them
+        ("unpack E1003080 01", "unpack 84 00 C2 00 04"),
+    ] {
+        assert_eq!(cut_down(&lines(&["irq", line, "irq"]), &mut differs), lines(&[short]));
+    }
 }

@@ -1,12 +1,12 @@
 //! The random scripts find every planted error, and what they find is cut down to a few lines.
 //!
-//! A planted error is a plausible mistake: an edit of src/module.rs or src/console.rs,
-//! tests/planted/NAME.edit. The module or the console with the edit in it is compared as another
-//! console is. Each error can be seen through the console's language; mistakes that no bus can see
-//! are not among them.
+//! A planted error is a plausible mistake: an edit of the module, of the console or of what the
+//! console is made of, tests/planted/NAME.edit. The console with the edit in it is compared as
+//! another console is. Each error can be seen through the console's language; mistakes that no bus
+//! can see are not among them.
 
 // The edited copies find here what they name.
-use second::{calls, module, words};
+use second::{calls, carry, module, typed, words};
 
 use second::compare::{cut_down, difference};
 use second::console::Console;

@@ -1,6 +1,6 @@
 //! The program from outside: its words, its answers in time, its status, and `compare`.
 
-use std::fs::OpenOptions;
+use std::fs::{read, remove_file, write, OpenOptions};
 use std::io::{BufRead, BufReader, Write};
 use std::process::{Command, Output, Stdio};
 
@@ -57,18 +57,19 @@ fn compare_finds_itself_the_same() {
 fn compare_shows_a_difference_cut_down() {
     // A program that gives KBDBOUNCE 1 as 0 if KBDSIZE 8C is read with it.
     let wrong = "\"$0\" | sed 's/^0 01 8C$/0 00 8C/'";
-    let words = ["compare", "8", "5000", "bash", "-o", "pipefail", "-c", wrong, SECOND];
+    let words = ["compare", "7", "5000", "bash", "-o", "pipefail", "-c", wrong, SECOND];
     let output = run(&words);
     assert_eq!(output.status.code(), Some(1));
     let text = text(&output);
-    let (before, short) = text.split_once("cut down to 2 lines:\n").unwrap();
-    assert!(before.starts_with("different: seed 8, line "));
+    let (before, short) = text.split_once("cut down to 3 lines:\n").unwrap();
+    assert!(before.starts_with("different: seed 7, line "));
     let lines: Vec<&str> = short.lines().collect();
-    assert_eq!(lines.len(), 5);
+    assert_eq!(lines.len(), 6);
     assert!(lines[0].contains("write"));
-    assert!(lines[1].contains("read"));
-    assert!(lines[3].starts_with("second module: 0 01 8C"));
-    assert!(lines[4].starts_with("the program:   0 00 8C"));
+    assert!(lines[1].contains("write"));
+    assert!(lines[2].contains("read"));
+    assert!(lines[4].starts_with("second module: 0 01 8C"));
+    assert!(lines[5].starts_with("the program:   0 00 8C"));
 }
 
 #[test]
@@ -129,7 +130,7 @@ fn compare_shows_a_wrong_status() {
 #[test]
 fn compare_shows_a_program_that_does_not_quit() {
     // The script of seed 3 has a quit. Here it is a blank line to the program.
-    let program = "tr -d '\\r' | sed 's/^[ \t]*quit[ \t]*$//' | \"$0\"";
+    let program = "sed 's/^[ \t]*quit[ \t\r]*$//' | \"$0\"";
     let output = run(&["compare", "3", "2000", "bash", "-o", "pipefail", "-c", program, SECOND]);
     assert_eq!(output.status.code(), Some(1));
     let text = text(&output);
@@ -201,9 +202,16 @@ fn quit_ends_while_the_input_is_open() {
 
 #[test]
 fn words_that_make_no_sense() {
-    let cases: [&[&str]; 8] = [
+    let cases: [&[&str]; 15] = [
         &["foo"],
         &["--foo"],
+        &["--record"],
+        &["--play"],
+        &["--play", "a", "b"],
+        &["--record", "a", "--play"],
+        &["--record", "a", "--record", "b"],
+        &["--play", "a", "--play", "b"],
+        &["--play", "a", "--record", "b", "c"],
         &["script"],
         &["script", "1"],
         &["script", "x", "10"],
@@ -217,4 +225,124 @@ fn words_that_make_no_sense() {
         assert!(String::from_utf8_lossy(&output.stderr).contains("usage: second"));
         assert!(output.stdout.is_empty());
     }
+}
+
+/// A path for a file of a test, and nothing there.
+fn path(name: &str) -> String {
+    let path = format!("{}/{name}", env!("CARGO_TARGET_TMPDIR"));
+    let _ = remove_file(&path);
+    path
+}
+
+/// What the program answers with these words to a whole input, and its status.
+fn speak_with(words: &[&str], input: &str) -> (String, Option<i32>) {
+    let mut command = Command::new(SECOND);
+    let command = command.args(words).stdin(Stdio::piped()).stdout(Stdio::piped());
+    let mut child = command.spawn().unwrap();
+    // A program that has ended reads no more.
+    let _ = child.stdin.take().unwrap().write_all(input.as_bytes());
+    let output = child.wait_with_output().unwrap();
+    (text(&output), output.status.code())
+}
+
+#[test]
+fn a_session_is_recorded() {
+    let file = path("recorded");
+    for (input, answers, status, list) in [
+        ("", "", 0, &[][..]),
+        ("# nothing\nirq\n", "0 yes\n", 0, &[]),
+        ("reset\nread 10 33\nlook 0\nreset\n", "0\n4\n1\n0\n", 0, &[0xF0]),
+        ("reset\nfoo\n", "0\n? unknown command: foo\n", 1, &[0xC0]),
+        ("read 00 1\nquit\nreset\n", "5\n", 0, &[0x80, 0x00]),
+        ("write 84 01", "0\n", 0, &[0x61, 0x00, 0x02]),
+        ("play FF\nplay 00\n", "0\n20\n", 0, &[0xFF, 0xC0]),
+    ] {
+        let (said, code) = speak_with(&["--record", &file], input);
+        assert_eq!((said.as_str(), code), (answers, Some(status)), "{input}");
+        assert_eq!(read(&file).unwrap(), list, "{input}");
+    }
+}
+
+#[test]
+fn a_list_in_a_file_is_played_first() {
+    let file = path("played");
+    // write 02 01 8C; look 0 0 0 1000 0 0 0 0; write 84 01
+    let mut list = vec![0x40, 0x82, 0x03, 0x18, 0, 0, 0, 0, 0, 0x80];
+    list.extend([0, 0, 0, 0, 0, 0, 0, 0x30, 0x80, 0x01]);
+    write(&file, list).unwrap();
+    let input = "read 02 2\nread 10 2\nirq\nrelease 3 SF\nread 10 2\n";
+    let answers = "0 01 8C\n0 3C 7F\n0 no\n0\n0 BC 7F\n";
+    assert_eq!(speak_with(&["--play", &file], input), (answers.to_string(), Some(0)));
+    write(&file, []).unwrap();
+    assert_eq!(speak_with(&["--play", &file], "irq\n"), ("0 yes\n".to_string(), Some(0)));
+}
+
+#[test]
+fn a_list_is_played_and_recorded() {
+    let (from, to) = (path("played-too"), path("recorded-too"));
+    write(&from, [0x84, 0x3E]).unwrap();
+    // 11, 10 00010000 11111, 01 10000100 00000 00000001
+    let list = [0xE1, 0x0F, 0xB0, 0x80, 0x01];
+    for words in [["--play", &from, "--record", &to], ["--record", &to, "--play", &from]] {
+        assert_eq!(speak_with(&words, "write 84 01\n"), ("0\n".to_string(), Some(0)));
+        assert_eq!(read(&to).unwrap(), list);
+    }
+    // The same file: it is read before it is made anew.
+    let words = ["--record", &from, "--play", &from];
+    assert_eq!(speak_with(&words, "write 84 01\n"), ("0\n".to_string(), Some(0)));
+    assert_eq!(read(&from).unwrap(), list);
+}
+
+/// Sees to it that the program says what is wrong with a file, and does nothing.
+fn complains(words: &[&str], beginning: &str) {
+    let (said, code) = speak_with(words, "reset\nirq\n");
+    assert!(said.starts_with(beginning) && said.lines().count() == 1, "{words:?}: {said}");
+    assert_eq!(code, Some(1), "{words:?}");
+}
+
+#[test]
+fn files_that_are_no_good() {
+    let (bad, to) = (path("bad"), path("not-recorded"));
+    write(&to, "as it was").unwrap();
+    for list in [&[0x00][..], &[0xC1], &[0x84], &[0x84, 0x00, 0x00], b"reset\n"] {
+        write(&bad, list).unwrap();
+        complains(&["--play", &bad], "? 20 ");
+        complains(&["--play", &bad, "--record", &to], "? 20 ");
+        complains(&["--record", &to, "--play", &bad], "? 20 ");
+    }
+    let missing = path("missing");
+    complains(&["--play", &missing], "? ");
+    complains(&["--play", &missing, "--record", &to], "? ");
+    complains(&["--play", env!("CARGO_TARGET_TMPDIR")], "? ");
+    assert_eq!(read(&to).unwrap(), b"as it was");
+    complains(&["--record", env!("CARGO_TARGET_TMPDIR")], "? ");
+    complains(&["--record", &format!("{missing}/there")], "? ");
+}
+
+#[test]
+fn the_longest_file_that_is_played() {
+    let (file, to) = (path("longest"), path("longest-recorded"));
+    write(&file, vec![0xFF; 1_048_577]).unwrap();
+    complains(&["--play", &file], "? ");
+    // Looks of nothing: 106 bits each. 79,137 of them have 8,388,522 bits, and 86 bits of resets are
+    // missing to 8,388,608.
+    let mut list = vec![0; 1_048_565];
+    list.push(0x3F);
+    list.extend([0xFF; 10]);
+    assert_eq!(list.len(), 1_048_576);
+    write(&file, &list).unwrap();
+    let words = ["--play", &file, "--record", &to];
+    assert_eq!(speak_with(&words, "reset\n"), ("0\n".to_string(), Some(0)));
+    // A reset before and one behind them.
+    let recorded = read(&to).unwrap();
+    assert_eq!((recorded.len(), recorded[0]), (1_048_577, 0xC0));
+    assert_eq!(recorded[1_048_564..], [&[0x00, 0x0F][..], &[0xFF; 10], &[0xF0]].concat());
+    complains(&["--play", &to], "? ");
+}
+
+#[test]
+fn a_record_that_could_not_be_written() {
+    let (said, code) = speak_with(&["--record", "/dev/full"], "reset\n");
+    assert!(said.starts_with("0\n? ") && code == Some(1), "{said}");
+    assert_eq!(speak_with(&["--record", "/dev/full"], "irq\n"), ("0 yes\n".to_string(), Some(0)));
 }

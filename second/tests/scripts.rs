@@ -1,9 +1,9 @@
 //! What the random scripts reach.
 
-use second::console::Console;
+use second::console::{Console, LONGEST};
 use second::malformed::{BYTES, ODD, WRONG};
 use second::script::{script, Line};
-use std::collections::HashSet;
+use std::collections::{HashMap, HashSet};
 
 /// The answers to a script.
 fn answers(script: &[Line]) -> Vec<String> {
@@ -32,7 +32,10 @@ fn a_longer_script_begins_with_a_shorter_one() {
 #[test]
 fn every_number_is_given_but_eight_and_nine() {
     let answers = answers(&script(1, 20_000));
-    for number in ["0", "1", "2", "3", "4", "5", "6", "7 no", "0 yes", "0 no", "? "] {
+    for number in ["0", "1", "2", "3", "4", "5", "6", "20", "21"] {
+        assert!(answers.iter().any(|answer| answer == number), "{number}");
+    }
+    for number in ["7 no", "0 yes", "0 no", "0 reset", "0 look ", "0 write ", "0 read ", "? "] {
         assert!(answers.iter().any(|answer| answer.starts_with(number)), "{number}");
     }
     assert!(!answers.iter().any(|answer| answer.starts_with(['8', '9'])));
@@ -133,4 +136,53 @@ fn fingers_move_in_every_script() {
             assert!(says(&lines, line), "{line} with seed {seed}");
         }
     }
+}
+
+/// How often each number is the answer to each command.
+fn numbers(script: &[Line]) -> HashMap<(String, String), usize> {
+    let (mut console, mut numbers) = (Console::new(), HashMap::new());
+    let first = |text: &str| text.split_whitespace().next().unwrap_or_default().to_string();
+    for line in script {
+        if let Some(answer) = console.answer(line) {
+            let pair = (first(&String::from_utf8_lossy(line)), first(&answer));
+            *numbers.entry(pair).or_default() += 1;
+        }
+    }
+    numbers
+}
+
+#[test]
+fn lists_are_carried_in_every_script() {
+    for seed in 1..4 {
+        let given = numbers(&script(seed, 60_000));
+        for (word, answers) in [
+            ("pack", &["0", "1", "2", "3", "4", "21", "?"][..]),
+            ("unpack", &["0", "20", "?"]),
+            ("play", &["0", "20", "?"]),
+        ] {
+            for number in answers {
+                let times = given.get(&(word.to_string(), number.to_string()));
+                assert!(
+                    times > Some(&20),
+                    "{word} gives {number} {times:?} times with seed {seed}"
+                );
+            }
+            let others = given.keys().filter(|(first, _)| first == word).count();
+            assert_eq!(others, answers.len(), "{word} with seed {seed}");
+        }
+    }
+}
+
+#[test]
+fn the_longest_lists_are_carried() {
+    let lines = script(1, 60_000);
+    for word in ["pack", "unpack", "play"] {
+        for length in [LONGEST - 1, LONGEST] {
+            let long = lines.iter().filter(|line| line.len() == length);
+            let long: Vec<Line> = long.cloned().collect();
+            assert!(count(&long, word) > 0, "{word} of {length} bytes");
+        }
+    }
+    let longest = answers(&lines).iter().map(String::len).max();
+    assert!(longest > Some(250_000));
 }

@@ -77,6 +77,7 @@ int main(void)
     states();
     bools();
     routine();
+    carry();
     printf("checks: %u made, %u failed\n", checked, failed);
     return failed ? 1 : 0;
 }

@@ -46,5 +46,6 @@ void declined(void);
 void states(void);
 void bools(void);
 void routine(void);
+void carry(void);
 
 #endif

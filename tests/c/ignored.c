@@ -1,4 +1,4 @@
-/* A number that nobody looks at: with IGNORED defined, each of the five calls below is warned of. Reset is always done, and nobody needs to look. */
+/* A number that nobody looks at: with IGNORED defined, each of the nine calls below is warned of. Reset is always done, and nobody needs to look. */
 #include "panel.h"
 
 #ifdef IGNORED
@@ -8,6 +8,7 @@
 #endif
 
 unsigned ignored(struct panel *panel, const uint16_t *samples, uint8_t *byte, bool *yes);
+unsigned ignored_lists(struct panel *panel, struct panel_call *call, struct panel_place *place, uint8_t *byte, bool *end);
 
 /* One call of each kind, one after another. */
 unsigned ignored(struct panel *panel, const uint16_t *samples, uint8_t *byte, bool *yes)
@@ -19,5 +20,17 @@ unsigned ignored(struct panel *panel, const uint16_t *samples, uint8_t *byte, bo
     LOOKED(panel_read(panel, PANEL_EVTCODE, byte, 1));
     LOOKED(panel_held(panel, panel_row(0), panel_col(0), yes));
     LOOKED(panel_interrupt(panel, yes));
+    return all;
+}
+
+/* And those that carry a session. */
+unsigned ignored_lists(struct panel *panel, struct panel_call *call, struct panel_place *place, uint8_t *byte, bool *end)
+{
+    unsigned all = 0;
+    uint64_t length;
+    LOOKED(panel_pack(call, 1, byte, 1, &length));
+    LOOKED(panel_pack_next(call, byte, 1, place));
+    LOOKED(panel_unpack(byte, 1, place, call, end));
+    LOOKED(panel_play(panel, byte, 1));
     return all;
 }

@@ -28,6 +28,13 @@ static void told_by_the_compiler(void)
     SAME(offsetof(struct panel, porirq), PORIRQ_AT);
     SAME(offsetof(struct panel, seen), SEEN_AT);
     SAME(offsetof(struct panel_done, number), END);
+    SAME(sizeof(struct panel_call), 70);
+    SAME(offsetof(struct panel_call, values), 6);
+    SAME(sizeof(struct panel_written), 24);
+    SAME(offsetof(struct panel_written, number), 16);
+    SAME(sizeof(struct panel_record), 88);
+    SAME(offsetof(struct panel_record, byte), 72);
+    SAME(offsetof(struct panel_record, end), 82);
     group_ends();
 }
 

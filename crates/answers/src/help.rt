@@ -18,6 +18,9 @@ pub fn commands(p: Page) -> Page
         read AA COUNT      a read access: COUNT bytes of the registers from address AA on\n\
         held ROW COL       is this key held?\n\
         irq                is the interrupt line asserted?\n\
+        pack ROOM CALL ..  the calls, with ; between them, as a packed list for a buffer of ROOM bytes\n\
+        unpack HEX..       the calls of a packed list\n\
+        play HEX..         the panel is reset and makes the calls of a packed list\n\
         show               the panel drawn: # held, . open, + and - while the contact settles\n\
         help               this list; help numbers lists what a call can answer\n\
         quit               ends the input\n\
@@ -42,7 +45,9 @@ pub fn numbers(p: Page) -> Page
         5  access: some address of the run is unknown, or can't be read or written as asked\n\
         6  write: a byte for KBDSIZE isn't acceptable\n\
         7  held question: row above 7 or column above 12\n\
-        8  all but reset: the panel's state is unsound; never after a reset\n\
+        8  look, access, question: the panel's state is unsound; never after a reset\n\
+        20 packed list: cut short or padded wrongly\n\
+        21 packed list: no room\n\
         9 was given by no call, is retired and gets no new use.\n\
         .\n",
     )

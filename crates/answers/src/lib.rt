@@ -1,5 +1,6 @@
 // What the console writes: answers in pieces, the panel drawn, the lists of commands and numbers, and what is wrong with a line.
 pub mod draw;
+pub mod files;
 pub mod help;
 pub mod out;
 pub mod refusal;

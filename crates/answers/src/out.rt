@@ -78,6 +78,19 @@ pub fn listed(p: Page, bytes: &[u8]) -> Page
     next
 }
 
+// Writes samples in base 16, each behind a blank.
+pub fn samples(p: Page, samples: &[u16]) -> Page
+    ensures { λ r. ⌜ r .at ≤ 256 ⌝ }
+{
+    let mut next = room(p, 0);
+    let mut i: usize = 0;
+    while i < samples.len() {
+        next = page::hexadecimal(room(put(next, b' '), 4), samples[i]);
+        i = i + 1;
+    }
+    next
+}
+
 // Writes a name, and a byte in base 16.
 pub fn hex(p: Page, name: &[u8], byte: u8) -> Page
     ensures { λ r. ⌜ r .at ≤ 256 ⌝ }

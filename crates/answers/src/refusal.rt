@@ -6,7 +6,7 @@ use text::page::least;
 ghost use Prim.Native.Nat.{_≤_};
 
 // What is wanted of a word: a sample; an address or a byte; how many bytes to read; a row or a column that is asked for; the row and the column of a contact;
-// how many looks to make.
+// how many looks to make; the bytes of a buffer; the digits of a packed list.
 pub enum Kind {
     Sample,
     Byte,
@@ -15,6 +15,8 @@ pub enum Kind {
     Row,
     Col,
     Looks,
+    Room,
+    Packed,
 }
 
 // What is wrong, the word that is, by its places, and what was wanted of it.
@@ -72,6 +74,7 @@ fn not_a_number(p: Page, kind: Kind) -> Page {
     match kind {
         Kind::Sample => out::text(p, b"? not a hexadecimal number: "),
         Kind::Byte => out::text(p, b"? not a hexadecimal number: "),
+        Kind::Packed => out::text(p, b"? not a hexadecimal number: "),
         _ => out::text(p, b"? not a decimal number: "),
     }
 }
@@ -85,6 +88,8 @@ fn digits_wanted(p: Page, kind: Kind) -> Page
         Kind::Byte => out::text(p, b" (addresses and bytes are hexadecimal)\n"),
         Kind::Count => out::text(p, b" (counts are decimal)\n"),
         Kind::Looks => out::text(p, b" (counts are decimal)\n"),
+        Kind::Room => out::text(p, b" (the room is decimal)\n"),
+        Kind::Packed => out::text(p, b" (a packed list is hexadecimal, two digits a byte)\n"),
         Kind::Col => out::text(p, b" (columns are 0 to 12, or SF)\n"),
         _ => out::text(p, b" (rows and columns are decimal)\n"),
     }
@@ -111,6 +116,7 @@ fn range_wanted(p: Page, kind: Kind) -> Page
         Kind::Row => out::text(p, b" (rows are 0 to 7)\n"),
         Kind::Col => out::text(p, b" (columns are 0 to 12, or SF)\n"),
         Kind::Looks => out::text(p, b" (65535 at most)\n"),
+        _ => out::text(p, b" (999999 at most)\n"),
     }
 }
 
@@ -148,6 +154,7 @@ pub fn refusal(p: Page, line: &[u8], wrong: Wrong, form: &[u8]) -> Page
         Fault::NoDigit => no_digit(p, line, wrong),
         Fault::TooLarge => too_large(p, line, wrong),
         Fault::TooFew => form_wanted(out::text(p, b"? too few words"), form),
+        Fault::Odd => out::text(p, b"? an odd number of digits (two a byte)\n"),
         _ => form_wanted(out::text(p, b"? too many words"), form),
     }
 }
@@ -158,6 +165,34 @@ pub fn unknown(p: Page, word: &[u8]) -> Page
 {
     let page = quoted(out::text(p, b"? unknown command: "), word);
     out::text(page, b" (help lists them)\n")
+}
+
+// A part of a line, between semicolons, whose first word names no call.
+fn unknown_call(p: Page, line: &[u8], wrong: Wrong) -> Page
+    ensures { λ r. ⌜ r .at ≤ 256 ⌝ }
+{
+    let page = word_at(
+        out::text(p, b"? unknown call: "),
+        line,
+        wrong.start,
+        wrong.end,
+    );
+    out::text(page, b" (a list has reset, look, write and read)\n")
+}
+
+// What is wrong with a call of a list, the form of which is this.
+pub fn refusal_of_call(p: Page, line: &[u8], wrong: Wrong, form: &[u8]) -> Page
+    ensures { λ r. ⌜ r .at ≤ 256 ⌝ }
+{
+    let fault = wrong.fault;
+    match fault {
+        Fault::Unknown => unknown_call(p, line, wrong),
+        Fault::Missing => out::text(
+            p,
+            b"? no call between semicolons (pack ROOM CALL ; CALL ..)\n",
+        ),
+        _ => refusal(p, line, wrong, form),
+    }
 }
 
 // A line that is too long.

@@ -1,11 +1,14 @@
-// The words behind a command: no more words, one number, two numbers, a list of numbers.
+// The words behind a command: no more words, one number, two numbers, a list of numbers, bytes as digits.
 use answers::refusal::Kind;
 use answers::refusal::Wrong;
 use text::number::Fault;
 use text::number::Number;
+use text::number::digit_of;
 use text::number::number_of;
+use text::word::is_blank;
 use text::word::is_end;
 use text::word::word_from;
+ghost use mathlib.Core.Path.{_≡_};
 ghost use Prim.Native.Nat.{_≤_};
 ghost use lib.ListN.{length};
 
@@ -28,10 +31,10 @@ pub(crate) struct Listed {
 }
 
 // The number of a word, and the word's places.
-struct Told {
-    number: Number,
-    start: usize,
-    end: usize,
+pub(crate) struct Told {
+    pub number: Number,
+    pub start: usize,
+    pub end: usize,
 }
 
 // The base of a number.
@@ -53,6 +56,7 @@ fn most_of(kind: Kind) -> u32 {
         Kind::Row => 7,
         Kind::Col => 12,
         Kind::Looks => 65535,
+        Kind::Room => 999999,
         _ => 0xFF,
     }
 }
@@ -90,7 +94,7 @@ fn value_of(word: &[u8], kind: Kind) -> Number {
 }
 
 // The number of the next word, from a place on.
-fn number_at(line: &[u8], from: usize, kind: Kind) -> Told
+pub(crate) fn number_at(line: &[u8], from: usize, kind: Kind) -> Told
     requires { ⌜ from ≤ length (now line) ⌝ }
     ensures { λ r. ⌜ r .end ≤ length (now (line .entry)) ⌝ }
 {
@@ -105,7 +109,7 @@ fn number_at(line: &[u8], from: usize, kind: Kind) -> Told
 }
 
 // What is wrong with a word.
-fn of_word(fault: Fault, kind: Kind, start: usize, end: usize) -> Wrong {
+pub(crate) fn of_word(fault: Fault, kind: Kind, start: usize, end: usize) -> Wrong {
     Wrong {
         fault: fault,
         kind: kind,
@@ -166,6 +170,43 @@ pub(crate) fn list_of(line: &[u8], kind: Kind, numbers: &mut [u32]) -> Listed
         }
     }
     unheard(too_many())
+}
+
+// A byte with one digit more behind its last.
+fn with_digit(byte: u8, digit: usize) -> u8 {
+    byte % 16 * 16 + (digit % 16) as u8
+}
+
+// The digits of all words, two a byte, go to the bytes.
+pub(crate) fn bytes_of(line: &[u8], bytes: &mut [u8]) -> Listed
+    requires { ⌜ (length (now line) ≤ 16384) × (8192 ≡ length (now bytes)) ⌝ }
+    ensures { λ r. ⌜ r .count ≤ length (now (bytes .exit)) ⌝ }
+{
+    let mut i: usize = 0;
+    let mut start: usize = 0;
+    let mut digits: usize = 0;
+    while i < line.len() {
+        let digit = digit_of(line[i]);
+        if digit < 16 {
+            bytes[digits / 2] = with_digit(bytes[digits / 2], digit);
+            digits = digits + 1;
+            i = i + 1;
+        } else {
+            if !is_blank(line[i]) {
+                let w = word_from(line, start);
+                return unheard(of_word(Fault::NoDigit, Kind::Packed, w.start, w.end));
+            }
+            i = i + 1;
+            start = i;
+        }
+    }
+    if digits % 2 == 1 {
+        return unheard(of_word(Fault::Odd, Kind::Packed, 0, 0));
+    }
+    Listed {
+        count: digits / 2,
+        heard: Heard::Well,
+    }
 }
 
 // Two numbers, of which the first is known; no word stands after the second.

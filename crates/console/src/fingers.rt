@@ -2,9 +2,11 @@
 use crate::commands::Pair;
 use crate::commands::pair_of;
 use crate::commands::pair_with;
+use crate::recorder::recorded;
 use crate::reply::refused;
 use crate::reply::told;
 use crate::session::Session;
+use crate::typed::look_at;
 use answers::refusal::Kind;
 use calls::Done;
 use keys::Col;
@@ -50,9 +52,11 @@ fn turned(s: Session, row: Row, col: Col, closed: bool) -> Session {
     next
 }
 
-// So many looks, or up to the first that is declined, with the contacts as they are.
+// So many looks, or up to the first that is declined, with the contacts as they are; each is recorded.
 fn looks(s: Session, count: u32) -> Session {
     let contacts = s.contacts;
+    let call = look_at(contacts);
+    let mut tape = s.tape;
     let mut panel = s.panel;
     let mut number = numbers::DONE;
     let mut i: u32 = 0;
@@ -60,10 +64,13 @@ fn looks(s: Session, count: u32) -> Session {
         let done = calls::look(panel, &contacts);
         panel = done.after;
         number = done.number;
+        tape = recorded(tape, call);
         i = i + 1;
     }
+    let mut next = s;
+    next.tape = tape;
     told(
-        s,
+        next,
         Done {
             after: panel,
             number: number,

@@ -1,9 +1,14 @@
 // The panel's console: a command a line in, an answer a line out.
+mod carried;
 mod commands;
 mod fingers;
+mod pack;
 mod perform;
+mod recorder;
 mod reply;
 mod session;
+mod start;
+mod typed;
 
 use answers::out;
 use libc::STDIN_FILENO;
@@ -99,16 +104,19 @@ fn turn(s: Session, input: &mut [u8]) -> Session
 
 fn main() {
     let mut input = io::large_buffer();
-    let mut s = Session {
+    let mut s = start::begun(Session {
         panel: state::fresh(),
         contacts: [0; 8],
         page: page::empty(),
+        tape: recorder::idle(),
         held: 0,
         on: true,
-    };
+    });
+    s.held = 0;
     let mut turns = u64::MAX;
     while turns > 0 && s.on {
         s = turn(s, &mut input);
         turns -= 1;
     }
+    recorder::ended(s);
 }

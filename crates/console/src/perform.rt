@@ -1,28 +1,43 @@
 // The commands, done and answered.
+use crate::carried;
 use crate::commands;
 use crate::commands::Heard;
 use crate::commands::Pair;
 use crate::fingers;
+use crate::pack;
+use crate::recorder::heeded;
+use crate::recorder::noted;
 use crate::reply::bytes_read;
 use crate::reply::on_page;
 use crate::reply::question;
 use crate::reply::refused;
 use crate::reply::told;
 use crate::session::Session;
+use crate::typed::LOOK;
+use crate::typed::NONE;
+use crate::typed::READ;
+use crate::typed::WRITE;
+use crate::typed::call_of;
+use crate::typed::eight_of;
+use crate::typed::kind_of;
+use crate::typed::refused_call;
 use answers::draw;
 use answers::help;
 use answers::refusal::Kind;
 use answers::refusal::too_long;
 use answers::refusal::unknown;
 use calls::Done;
+use carry::call::Call;
 use keys::Col;
 use keys::Row;
+use state::Module;
 use text::lines::without_return;
 use text::list::as_bytes;
-use text::list::as_samples;
 use text::page::least;
 use text::word::is_same;
 use text::word::word_from;
+ghost use Prim.Native.Nat.{_≤_};
+ghost use lib.ListN.{length};
 
 // The bytes of the longest line.
 pub(crate) const LONGEST: usize = 16384;
@@ -30,77 +45,77 @@ pub(crate) const LONGEST: usize = 16384;
 const COMMENT: u8 = b'#';
 
 // After a look: if it was done, the contacts are as its samples.
-fn looked(s: Session, samples: [u16; 9], done: Done) -> Session {
+fn looked(s: Session, samples: [u16; 32], done: Done) -> Session {
     if done.number != numbers::DONE {
         return told(s, done);
     }
+    let contacts = eight_of(samples);
     let mut next = s;
-    next.contacts = [
-        samples[0],
-        samples[1],
-        samples[2],
-        samples[3],
-        samples[4],
-        samples[5],
-        samples[6],
-        samples[7],
-    ];
+    next.contacts = contacts;
     told(next, done)
 }
 
-// A look with the samples of a list. More than eight are declined, however many they are.
-fn look_list(s: Session, list: &[u32]) -> Session {
-    let mut samples = [0u16; 9];
-    let n = as_samples(list, &mut samples);
-    looked(s, samples, calls::look(s.panel, &samples[0..n]))
+// A look with the first samples of a list. More than eight are declined, however many they are.
+fn look_with(panel: Module, samples: &[u16], count: usize) -> Done {
+    let n = least(count, samples.len());
+    calls::look(panel, &samples[0..n])
 }
 
-// `look S0 S1 ..`
-fn look(s: Session, rest: &[u8], list: &mut [u32]) -> Session {
-    let listed = commands::list_of(rest, Kind::Sample, list);
-    let count = listed.count;
-    let heard = listed.heard;
-    match heard {
-        Heard::Wrong(wrong) => refused(s, rest, wrong, b"look S0 S1 .."),
-        Heard::Well => look_list(s, &list[0..count]),
-    }
+// Makes a look.
+fn look(s: Session, call: Call) -> Session {
+    let samples = call.values;
+    let done = look_with(s.panel, &samples, call.count as usize);
+    looked(s, samples, done)
 }
 
-// A write of the bytes of a list, to the address in front of them. More than 32 are declined, however many they are.
-fn write_list(s: Session, rest: &[u8], list: &[u32]) -> Session {
-    let mut bytes = [0u8; 34];
-    let n = as_bytes(list, &mut bytes);
-    if n < 1 {
-        return refused(s, rest, commands::too_few(), b"write AA B0 B1 ..");
-    }
-    told(s, calls::write(s.panel, bytes[0], &bytes[1..n]))
-}
-
-// `write AA B0 B1 ..`
-fn write(s: Session, rest: &[u8], list: &mut [u32]) -> Session {
-    let listed = commands::list_of(rest, Kind::Byte, list);
-    let count = listed.count;
-    let heard = listed.heard;
-    match heard {
-        Heard::Wrong(wrong) => refused(s, rest, wrong, b"write AA B0 B1 .."),
-        Heard::Well => write_list(s, rest, &list[0..count]),
-    }
-}
-
-// A read of so many bytes from an address on. More than 32 are declined, however many they are.
-fn read_bytes(s: Session, first: u32, count: u32, bytes: &mut [u8]) -> Session {
-    let n = least(count as usize, bytes.len());
-    let done = calls::read(s.panel, (first % 256) as u8, &mut bytes[0..n]);
-    bytes_read(s, done, &bytes[0..n])
-}
-
-// `read AA COUNT`
-fn read(s: Session, rest: &[u8]) -> Session {
-    let pair = commands::pair_of(rest, Kind::Byte, Kind::Count);
+// Makes a write. More than 32 bytes are declined, however many they are.
+fn write(s: Session, call: Call) -> Session {
+    let values = call.values;
     let mut bytes = [0u8; 33];
-    match pair {
-        Pair::Wrong(wrong) => refused(s, rest, wrong, b"read AA COUNT"),
-        Pair::Numbers(first, count) => read_bytes(s, first, count, &mut bytes),
+    as_bytes(&values, &mut bytes);
+    let n = least(call.count as usize, 33);
+    told(
+        s,
+        calls::write(s.panel, (call.first % 256) as u8, &bytes[0..n]),
+    )
+}
+
+// A read from an address on, as many bytes as the buffer has.
+fn read_in(s: Session, first: u8, bytes: &mut [u8]) -> Session {
+    let done = calls::read(s.panel, first, bytes);
+    bytes_read(s, done, bytes)
+}
+
+// Makes a read. More than 32 bytes are declined, however many they are.
+fn read(s: Session, call: Call) -> Session {
+    let mut bytes = [0u8; 33];
+    let n = least(call.count as usize, 33);
+    read_in(s, (call.first % 256) as u8, &mut bytes[0..n])
+}
+
+// Makes a call and answers it.
+fn made(s: Session, call: Call) -> Session {
+    let kind = call.kind;
+    if kind == LOOK {
+        return look(s, call);
+    }
+    if kind == WRITE {
+        return write(s, call);
+    }
+    if kind == READ {
+        return read(s, call);
+    }
+    told(s, calls::reset())
+}
+
+// `look S0 S1 ..`, `write AA B0 B1 ..`, `read AA COUNT`, `reset`
+fn called(s: Session, kind: u16, rest: &[u8], list: &mut [u32]) -> Session {
+    let typed = call_of(kind, rest, list);
+    let call = typed.call;
+    let heard = typed.heard;
+    match heard {
+        Heard::Wrong(wrong) => on_page(s, refused_call(s.page, kind, rest, wrong)),
+        Heard::Well => noted(made(s, call), call),
     }
 }
 
@@ -124,14 +139,6 @@ fn irq(s: Session, rest: &[u8]) -> Session {
         return refused(s, rest, commands::too_many(), b"irq");
     }
     question(s, calls::interrupt(s.panel))
-}
-
-// `reset`
-fn reset(s: Session, rest: &[u8]) -> Session {
-    if !commands::is_empty(rest) {
-        return refused(s, rest, commands::too_many(), b"reset");
-    }
-    told(s, calls::reset())
 }
 
 // `show`
@@ -191,16 +198,13 @@ fn of_session(s: Session, word: &[u8], rest: &[u8]) -> Session {
     on_page(s, unknown(s.page, word))
 }
 
-// The questions, and reset.
+// The questions.
 fn of_panel(s: Session, word: &[u8], rest: &[u8]) -> Session {
     if is_same(word, b"held") {
         return held(s, rest);
     }
     if is_same(word, b"irq") {
         return irq(s, rest);
-    }
-    if is_same(word, b"reset") {
-        return reset(s, rest);
     }
     of_session(s, word, rest)
 }
@@ -219,23 +223,38 @@ fn of_fingers(s: Session, word: &[u8], rest: &[u8]) -> Session {
     of_panel(s, word, rest)
 }
 
-// Does the command that a word names, with the words behind it, and answers it.
-// Each group of commands has a function, since the check of many arms in one grows with their square.
-fn named(s: Session, word: &[u8], rest: &[u8], list: &mut [u32]) -> Session {
-    if is_same(word, b"look") {
-        return look(s, rest, list);
+// The commands of packed lists.
+fn of_lists(s: Session, word: &[u8], rest: &[u8], list: &mut [u32]) -> Session
+    requires { ⌜ length (now rest) ≤ 16384 ⌝ }
+{
+    if is_same(word, b"pack") {
+        return pack::pack(s, rest, list);
     }
-    if is_same(word, b"read") {
-        return read(s, rest);
+    if is_same(word, b"unpack") {
+        return carried::unpack(s, rest);
     }
-    if is_same(word, b"write") {
-        return write(s, rest, list);
+    if is_same(word, b"play") {
+        return carried::play(s, rest);
     }
     of_fingers(s, word, rest)
 }
 
+// Does the command that a word names, with the words behind it, and answers it.
+// Each group of commands has a function, since the check of many arms in one grows with their square.
+fn named(s: Session, word: &[u8], rest: &[u8], list: &mut [u32]) -> Session
+    requires { ⌜ length (now rest) ≤ 16384 ⌝ }
+{
+    let kind = kind_of(word);
+    if kind != NONE {
+        return called(s, kind, rest, list);
+    }
+    of_lists(s, word, rest, list)
+}
+
 // Does the command of a line that is not too long. A blank line and a comment ask for nothing.
-fn asked(s: Session, line: &[u8], list: &mut [u32]) -> Session {
+fn asked(s: Session, line: &[u8], list: &mut [u32]) -> Session
+    requires { ⌜ length (now line) ≤ 16384 ⌝ }
+{
     let w = word_from(line, 0);
     let start = w.start;
     let end = w.end;
@@ -255,5 +274,5 @@ pub(crate) fn perform(s: Session, line: &[u8], list: &mut [u32]) -> Session {
         return on_page(s, too_long(s.page));
     }
     let n = without_return(line);
-    asked(s, &line[0..n], list)
+    heeded(asked(s, &line[0..n], list))
 }

@@ -1,4 +1,5 @@
 // What is kept from one line to the next.
+use crate::recorder::Tape;
 use state::Module;
 use text::page::Page;
 
@@ -8,6 +9,8 @@ pub(crate) struct Session {
     pub contacts: [u16; 8],
     // the answers that are not written out yet
     pub page: Page,
+    // the recording
+    pub tape: Tape,
     // where the line that has not ended begins in the input, and then how many bytes of it are kept
     pub held: usize,
     // is there more to come, and could every answer be written?

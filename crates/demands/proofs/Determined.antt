@@ -2,8 +2,9 @@
 --
 --    Determined n ps r Post     so it is of the post-condition Post, of a call with n lifetimes, parameters ps and the result r
 --    reset-determined, look-determined, write-determined, read-determined, held-determined, interrupt-determined
+--    pack-determined, add-determined, check-determined, record-determined, play-determined
 --
--- Each Post is what the toolchain makes of the `ensures` lines in crates/calls/src/lib.rt: no definition of ours stands between.
+-- Each Post is what the toolchain makes of the `ensures` lines in crates/calls/src/ and crates/carry/src/: no definition of ours stands between.
 -- Assumes nothing.
 use Prim.Native.Nat.{ℕ}
 use mathlib.Core.Path.{_≡_, refl, sym, _∙_}
@@ -23,6 +24,16 @@ use Rattle.calls.proofs.held.Kinds as held-kinds
 use Rattle.calls.proofs.held.Reads as held
 use Rattle.calls.proofs.interrupt.Kinds as interrupt-kinds
 use Rattle.calls.proofs.interrupt.Reads as interrupt
+use Rattle.carry.proofs.writer.pack.Kinds as pack-kinds
+use Rattle.carry.proofs.writer.pack.Reads as packs
+use Rattle.carry.proofs.writer.add.Kinds as add-kinds
+use Rattle.carry.proofs.writer.add.Reads as adds
+use Rattle.carry.proofs.reader.check.Kinds as check-kinds
+use Rattle.carry.proofs.reader.check.Reads as checks
+use Rattle.carry.proofs.reader.record_at.Kinds as record-kinds
+use Rattle.carry.proofs.reader.record_at.Reads as records
+use Rattle.carry.proofs.player.play.Kinds as play-kinds
+use Rattle.carry.proofs.player.play.Reads as plays
 
 -- an outcome is the result x, which has number, next state and answer, and v, what everything lent holds at last
 abbrev pub Determined : (n : ℕ) (ps : List (PK n)) (r : RK n) → Out n ps r → Type 0
@@ -52,3 +63,19 @@ held-determined κs a x y v w p q = (p ∙ sym q, refl)
 
 pub interrupt-determined : Determined 0 interrupt-kinds.ps interrupt-kinds.r interrupt.Post
 interrupt-determined κs a x y v w p q = (p ∙ sym q, refl)
+
+-- packed lists: the buffer, each byte of it, is all that is lent to be altered
+pub pack-determined : Determined 2 pack-kinds.ps pack-kinds.r packs.Post
+pack-determined κs a x y v w p q = (p .0 ∙ sym (q .0), λ i. (tt, ((p .1 ∙ sym (q .1)) i, tt)))
+
+pub add-determined : Determined 1 add-kinds.ps add-kinds.r adds.Post
+add-determined κs a x y v w p q = (p .0 ∙ sym (q .0), λ i. (tt, ((p .1 ∙ sym (q .1)) i, (tt, (tt, tt)))))
+
+pub check-determined : Determined 1 check-kinds.ps check-kinds.r checks.Post
+check-determined κs a x y v w p q = (p ∙ sym q, refl)
+
+pub record-determined : Determined 1 record-kinds.ps record-kinds.r records.Post
+record-determined κs a x y v w p q = (p ∙ sym q, refl)
+
+pub play-determined : Determined 1 play-kinds.ps play-kinds.r plays.Post
+play-determined κs a x y v w p q = (p ∙ sym q, refl)

@@ -1,4 +1,5 @@
 pub mod Queue
+pub mod Carrying
 pub mod Look
 pub mod Bytes
 pub mod Simulation

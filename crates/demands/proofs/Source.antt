@@ -1,12 +1,16 @@
--- OURS IS THE SOURCE: what the contract of each of the six functions in crates/calls/src/lib.rt allows is what the machine `ours` does.
+-- OURS IS THE SOURCE: what the contract of each of the six functions in crates/calls/src/lib.rt allows is what the machine `ours` does; and of the
+-- functions in crates/carry/src/, what the carrier `ours` does.
 --
 --    reset-source, look-source, write-source, read-source, held-source, interrupt-source
+--    pack-source, add-source, check-source, record-source, play-source
 --
 -- Each Post is what the toolchain makes of a function's `ensures` lines, and the function is proved to meet it. x is the result,
 -- a the arguments, e the parameters at exit.
 -- Assumes nothing.
+use Prim.Native.Nat.{ℕ}
 use mathlib.Core.Path.{_≡_, ap}
 use mathlib.Core.List.{[]}
+use lib.ListN.{length}
 use contract.Lifetimes.{Lfts}
 use denote.Ref.{now}
 use denote.Triple.Clauses.{AtExit}
@@ -26,6 +30,21 @@ use Rattle.calls.proofs.held.Kinds as held-kinds
 use Rattle.calls.proofs.held.Reads as helds
 use Rattle.calls.proofs.interrupt.Kinds as interrupt-kinds
 use Rattle.calls.proofs.interrupt.Reads as interrupts
+use Rattle.carry.specs.declared.writer.Packed.{Packed}
+use Rattle.carry.specs.declared.writer.Added.{Added}
+use Rattle.carry.specs.declared.reader.Record.{Record}
+use Rattle.carry.specs.Writer.{addCall, addBuffer}
+use Rattle.carry.specs.Statements as carry
+use Rattle.carry.proofs.writer.pack.Kinds as pack-kinds
+use Rattle.carry.proofs.writer.pack.Reads as packs
+use Rattle.carry.proofs.writer.add.Kinds as add-kinds
+use Rattle.carry.proofs.writer.add.Reads as adds
+use Rattle.carry.proofs.reader.check.Kinds as check-kinds
+use Rattle.carry.proofs.reader.check.Reads as checks
+use Rattle.carry.proofs.reader.record_at.Kinds as record-kinds
+use Rattle.carry.proofs.reader.record_at.Reads as records
+use Rattle.carry.proofs.player.play.Kinds as play-kinds
+use Rattle.carry.proofs.player.play.Reads as plays
 use Rattle.demands.specs.Machine.{reset, look, write, read, held, interrupt}
 use Rattle.demands.specs.Ours.{changing, asking, called}
 
@@ -58,3 +77,26 @@ pub interrupt-source : (κs : Lfts 0) (a : Dens κs interrupt-kinds.ps) (x : Ans
     → interrupts.Post κs a x e → asking x ≡ called (a .0) interrupt
 unfolding called
 interrupt-source κs a x e p = ap asking p
+
+-- ---- packed lists
+
+pub pack-source : (κs : Lfts 2) (a : Dens κs pack-kinds.ps) (x : Packed) (e : AtExit (endedOf 2 pack-kinds.ps pack-kinds.r) κs)
+    → packs.Post κs a x e → (x ≡ carry.ours .packs (now (a .0)) (now (a .1 .0))) × (now (e .1 .0) ≡ carry.ours .leaves (now (a .0)) (now (a .1 .0)))
+pack-source κs a x e p = p
+
+pub add-source : (κs : Lfts 1) (a : Dens κs add-kinds.ps) (x : Added) (e : AtExit (endedOf 1 add-kinds.ps add-kinds.r) κs)
+    → adds.Post κs a x e
+    → (x ≡ addCall (a .0) (length (now (a .1 .0))) (a .1 .1 .0) (a .1 .1 .1 .0)) × (now (e .1 .0) ≡ addBuffer (a .0) (now (a .1 .0)) (a .1 .1 .0) (a .1 .1 .1 .0))
+add-source κs a x e p = p
+
+pub check-source : (κs : Lfts 1) (a : Dens κs check-kinds.ps) (x : ℕ) (e : AtExit (endedOf 1 check-kinds.ps check-kinds.r) κs)
+    → checks.Post κs a x e → x ≡ carry.ours .checks (now (a .0))
+check-source κs a x e p = p
+
+pub record-source : (κs : Lfts 1) (a : Dens κs record-kinds.ps) (x : Record) (e : AtExit (endedOf 1 record-kinds.ps record-kinds.r) κs)
+    → records.Post κs a x e → x ≡ carry.ours .finds (now (a .0)) (a .1 .0) (a .1 .1 .0)
+record-source κs a x e p = p
+
+pub play-source : (κs : Lfts 1) (a : Dens κs play-kinds.ps) (x : Done) (e : AtExit (endedOf 1 play-kinds.ps play-kinds.r) κs)
+    → plays.Post κs a x e → x ≡ carry.ours .plays (now (a .0))
+play-source κs a x e p = p

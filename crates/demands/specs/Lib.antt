@@ -1,4 +1,5 @@
 pub mod Machine
+pub mod Carrying
 pub mod Table
 pub mod Demands
 pub mod Ours

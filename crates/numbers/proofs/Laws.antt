@@ -2,7 +2,7 @@
 --
 --    given, only                    `numberOf` is the table's sentence, both ways
 --    line-yes, line-no, lines-end   the first line decides; it is passed; none is left
---    declining l                    no line of the list l gives the number of a call that is done
+--    declining l                    no line of the list l gives the number of a call that is done; declining-both: nor does one of two lists
 --    first-decides, rest-decides    of two lists the first declines the call; it passes the call on, and the rest decides
 --    line-false                     a call that is done has passed each of its lines
 -- Assumes nothing.
@@ -56,6 +56,14 @@ module _ (b : Bool) (n : ℕ) (l : List Line) (d : declining ((b gives n) ∷ l)
   never-done : {A : Type 0} → n ≡ done → A
   unfolding declining
   never-done e = absurd (false≢true (rw e at d))
+
+-- no line of two lists does, if no line of either does
+pub declining-both : (k l : List Line) → declining k ≡ true → declining l ≡ true → declining (k ++ l) ≡ true
+unfolding declining
+declining-both [] l h g = g
+declining-both ((b gives n) ∷ k) l h g =
+    let p = and-eq-true-iff (not (eqb n done)) (declining k) .0 h in
+    and-eq-true-iff (not (eqb n done)) (declining (k ++ l)) .1 (p .0, declining-both k l (p .1) g)
 
 -- of two lists the first declines the call
 pub first-decides : (k l : List Line) → (numberOf k ≡ done → ⊥) → numberOf (k ++ l) ≡ numberOf k

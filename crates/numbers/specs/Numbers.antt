@@ -45,6 +45,14 @@ noKey = 7
 abbrev pub unsound : ℕ
 unsound = 8
 
+-- "list cut short or padded wrongly"
+abbrev pub cutShort : ℕ
+cutShort = 20
+
+-- "no room"
+abbrev pub noRoom : ℕ
+noRoom = 21
+
 infix 70 _gives_
 pub data Line : Type 0 where
   _gives_ : Bool → ℕ → Line

@@ -24,5 +24,11 @@ pub const BAD_SIZE: u8 = 6;
 // Held question: row above 7 or column above 12.
 pub const NO_KEY: u8 = 7;
 
-// All but reset: module state unsound.
+// Look, access, question: module state unsound.
 pub const UNSOUND: u8 = 8;
+
+// Packed list: cut short or padded wrongly.
+pub const CUT_SHORT: u8 = 20;
+
+// Packed list: no room for it.
+pub const NO_ROOM: u8 = 21;

@@ -2,6 +2,7 @@
 --
 --    two-facts    what follows from two propositions follows from the assertions of both
 --    look-determined, write-determined, read-determined, held-determined, interrupt-determined, reset-determined
+--    pack-determined, add-determined, unpack-determined
 --
 -- An outcome is the result, x or y, and what everything lent to be altered holds at exit, e or f. Each theorem is on the clauses that the toolchain makes of the source
 -- (proofs/Source.antt says what they are), and reads: where the `ensures` of both outcomes holds, they are the same.
@@ -22,8 +23,16 @@ use denote.Triple.Entry.{Res, Args}
 use denote.Triple.Clauses.{AtExit}
 use borrow.Fn.Kinds.{Dens, endedOf}
 use Rattle.calls.specs.declared.Done.{Done}
+use Rattle.carry.specs.declared.reader.Record.{Record}
+use Rattle.panel.specs.declared.Written.{Written}
 use Rattle.panel.proofs.panel_reset_value.Kinds as reset-kinds
 use Rattle.panel.proofs.panel_reset_value.Reads as resets
+use Rattle.panel.proofs.panel_pack_numbers.Kinds as pack-kinds
+use Rattle.panel.proofs.panel_pack_numbers.Reads as packs
+use Rattle.panel.proofs.panel_add_numbers.Kinds as add-kinds
+use Rattle.panel.proofs.panel_add_numbers.Reads as adds
+use Rattle.panel.proofs.panel_unpack_value.Kinds as unpack-kinds
+use Rattle.panel.proofs.panel_unpack_value.Reads as unpacks
 use Rattle.panel.proofs.panel_look as looks
 use Rattle.panel.proofs.panel_write as writes
 use Rattle.panel.proofs.panel_read as reads
@@ -64,3 +73,16 @@ module _ {M : Type 1} (𝓤 : URA M) (H : Heap 𝓤) (A : Atoms 𝓤) (at-mem : 
 
 pub reset-determined : (κs : Lfts 0) (a : Dens κs reset-kinds.ps) (x y : Done) (e f : AtExit (endedOf 0 reset-kinds.ps reset-kinds.r) κs) → resets.Post κs a x e → resets.Post κs a y f → x ≡ y
 reset-determined κs a x y e f p q = p ∙ sym q
+
+-- of what is lent to these, the buffer alone can be altered
+pub pack-determined : (κs : Lfts 2) (a : Dens κs pack-kinds.ps) (x y : Written) (e f : AtExit (endedOf 2 pack-kinds.ps pack-kinds.r) κs)
+    → packs.Post κs a x e → packs.Post κs a y f → (x ≡ y) × (now (e .1 .0) ≡ now (f .1 .0))
+pack-determined κs a x y e f p q = (p .0 ∙ sym (q .0), p .1 ∙ sym (q .1))
+
+pub add-determined : (κs : Lfts 2) (a : Dens κs add-kinds.ps) (x y : Written) (e f : AtExit (endedOf 2 add-kinds.ps add-kinds.r) κs)
+    → adds.Post κs a x e → adds.Post κs a y f → (x ≡ y) × (now (e .1 .0) ≡ now (f .1 .0))
+add-determined κs a x y e f p q = (p .0 ∙ sym (q .0), p .1 ∙ sym (q .1))
+
+pub unpack-determined : (κs : Lfts 1) (a : Dens κs unpack-kinds.ps) (x y : Record) (e f : AtExit (endedOf 1 unpack-kinds.ps unpack-kinds.r) κs)
+    → unpacks.Post κs a x e → unpacks.Post κs a y f → x ≡ y
+unpack-determined κs a x y e f p q = p ∙ sym q

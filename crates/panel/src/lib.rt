@@ -1,11 +1,17 @@
-// The face for C (include/panel.h): reset by value, and the other five calls over a module that is lent.
+// The face for C (include/panel.h): reset by value, five calls over a module that is lent, and sessions carried, by value again.
 use calls::Done;
+use carry::reader::Record;
 use keys::Col;
 use keys::Row;
 use state::Module;
 ghost use mathlib.Core.Path.{_≡_};
+ghost use lib.ListN.{length};
 ghost use Rattle.calls.specs.Calls.{resetCall};
+ghost use Rattle.carry.specs.Calls.{callAt};
+ghost use Rattle.carry.specs.Writer.{packCall, packBuffer, addCall, addBuffer};
+ghost use Rattle.carry.specs.Reader.{recordAt};
 ghost use Rattle.panel.specs.Lent.{LookLent, WriteLent, ReadLent, HeldLent, InterruptLent};
+ghost use Rattle.panel.specs.Written.{ofPacked, ofAdded};
 
 // One look; the module is altered where it is.
 #[no_mangle]
@@ -63,4 +69,51 @@ pub extern "C" fn panel_interrupt(m: &Module, yes: &mut bool) -> u8
     let r = calls::interrupt(*m);
     *yes = r.yes;
     r.number
+}
+
+// How far a list is written: bytes, bits more, and the call's number. Three words, so that C gets it in memory on every target.
+#[repr(C)]
+pub struct Written {
+    pub byte: usize,
+    pub bit: usize,
+    pub number: usize,
+}
+
+// A list of calls, 35 numbers a call, as a packed list, at the front of the buffer.
+#[no_mangle]
+pub extern "C" fn panel_pack_numbers(calls: &[u16], out: &mut [u8]) -> Written
+    ensures { λ r. ⌜ (r ≡ ofPacked (packCall (now (calls .entry)) (length (now (out .entry))))) × (now (out .exit) ≡ packBuffer (now (calls .entry)) (now (out .entry))) ⌝ }
+{
+    let r = carry::writer::pack(calls, out);
+    Written {
+        byte: r.length,
+        bit: 0,
+        number: r.number as usize,
+    }
+}
+
+// One call more, of 35 numbers: its record goes behind so many bytes and bits of the buffer.
+#[no_mangle]
+pub extern "C" fn panel_add_numbers(
+    call: &[u16; 35],
+    out: &mut [u8],
+    byte: usize,
+    bit: u8,
+) -> Written
+    ensures { λ r. ⌜ (r ≡ ofAdded (addCall (callAt (now (call .entry)) 0) (length (now (out .entry))) byte bit)) × (now (out .exit) ≡ addBuffer (callAt (now (call .entry)) 0) (now (out .entry)) byte bit) ⌝ }
+{
+    let r = carry::writer::add(carry::call::call_at(call, 0), out, byte, bit);
+    Written {
+        byte: r.byte,
+        bit: r.bit as usize,
+        number: r.number as usize,
+    }
+}
+
+// The call whose record is behind so many bytes and bits of a packed list, and the place behind it.
+#[no_mangle]
+pub extern "C" fn panel_unpack_value(bytes: &[u8], byte: usize, bit: u8) -> Record
+    ensures { λ r. ⌜ r ≡ recordAt (now (bytes .entry)) byte bit ⌝ }
+{
+    carry::reader::record_at(bytes, byte, bit)
 }

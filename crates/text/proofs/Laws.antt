@@ -2,6 +2,7 @@
 --
 --    wrote-end, wrote-next               a text is written byte by byte
 --    listed-end, listed-next             bytes are listed one by one
+--    hex-one, hex-two, hex-three, hex-four   a number of so many digits in base 16
 --    up-to-end, up-to-yes, up-to-no      a line is passed up to a byte of one kind
 --    up-to-most                          no further than the line's end
 --    same-end, same-no, same-yes         two words of one length, compared byte by byte
@@ -25,7 +26,7 @@ use lib.Seq.{drop-cons}
 use lib.Dec.{eqb, leb}
 use borrow.Author.Tests.{lt-ltb, le-ltb, eq-eqb, ne-eqb, leb-true, leb-false}
 use Rattle.text.specs.declared.page.Page.{Page}
-use Rattle.text.specs.Pages.{put, wrote, twoDigits, listed}
+use Rattle.text.specs.Pages.{glyph, put, wrote, twoDigits, hexadecimal, listed}
 use Rattle.text.specs.Line.{blank, upTo, same}
 use Rattle.words.specs.Words.{some}
 use Rattle.words.proofs.Laws.{all-end, all-at-no, all-at-yes}
@@ -50,6 +51,25 @@ module _ (p : Page) (l : List ℕ) (i : ℕ) where
   pub listed-next : i < length l → (q r : Page) → q ≡ put p 32 → r ≡ wrote q (twoDigits (getD l i 0)) → wrote p (listed (drop i l)) ≡ wrote r (listed (drop (i + 1) l))
   unfolding wrote listed twoDigits
   listed-next h q r e f = rw (drop-cons l i 0 h, add-one i, f, e)
+
+module _ (p : Page) (n : ℕ) where
+  pub hex-one : n < 16 → (q : Page) → q ≡ put p (glyph (n % 256)) → q ≡ wrote p (hexadecimal n)
+  unfolding wrote hexadecimal
+  hex-one h q e = rw (lt-ltb n 16 h) e
+
+  module _ (h : 16 ≤ n) where
+    pub hex-two : n < 256 → (q : Page) → q ≡ wrote p (twoDigits (n % 256)) → q ≡ wrote p (hexadecimal n)
+    unfolding hexadecimal
+    hex-two l q e = rw (le-ltb n 16 h, lt-ltb n 256 l) e
+
+    module _ (k : 256 ≤ n) where
+      pub hex-three : n < 4096 → (q r : Page) → q ≡ put p (glyph (n / 256)) → r ≡ wrote q (twoDigits (n % 256)) → r ≡ wrote p (hexadecimal n)
+      unfolding wrote twoDigits hexadecimal
+      hex-three l q r e f = rw (le-ltb n 16 h, le-ltb n 256 k, lt-ltb n 4096 l, ← e) f
+
+      pub hex-four : 4096 ≤ n → (q r : Page) → q ≡ wrote p (twoDigits (n / 256)) → r ≡ wrote q (twoDigits (n % 256)) → r ≡ wrote p (hexadecimal n)
+      unfolding wrote twoDigits hexadecimal
+      hex-four l q r e f = rw (le-ltb n 16 h, le-ltb n 256 k, le-ltb n 4096 l, ← e) f
 
 pub up-to-most : (t : Bool) (l : List ℕ) → upTo t l ≤ length l
 unfolding upTo

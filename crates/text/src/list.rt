@@ -17,7 +17,7 @@ pub fn as_samples(numbers: &[u32], samples: &mut [u16]) -> usize
 }
 
 // The first numbers of a list as bytes, as many as there is room for.
-pub fn as_bytes(numbers: &[u32], bytes: &mut [u8]) -> usize
+pub fn as_bytes(numbers: &[u16], bytes: &mut [u8]) -> usize
     ensures { λ r. ⌜ r ≤ length (now (bytes .exit)) ⌝ }
 {
     let n = least(numbers.len(), bytes.len());

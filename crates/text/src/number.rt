@@ -11,7 +11,8 @@ pub enum Fault {
     NoDigit,
     TooLarge,
     Unknown,
-    TooLong,
+    Missing,
+    Odd,
 }
 
 pub enum Number {
@@ -20,7 +21,7 @@ pub enum Number {
 }
 
 // A digit's value; 16 if it is none, in either base.
-fn digit_of(byte: u8) -> usize
+pub fn digit_of(byte: u8) -> usize
     ensures { λ r. ⌜ (r ≡ digit byte) × (r ≤ 16) ⌝ }
 {
     match byte {

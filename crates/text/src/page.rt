@@ -2,7 +2,7 @@
 ghost use mathlib.Core.Path.{_≡_};
 ghost use Prim.Native.Nat.{_≤_, _<_, _+_, _*_, min};
 ghost use lib.ListN.{length};
-ghost use Rattle.text.specs.Pages.{glyph, listed, put, twoDigits, wrote};
+ghost use Rattle.text.specs.Pages.{glyph, hexadecimal, listed, put, twoDigits, wrote};
 ghost use Rattle.text.specs.Digits.{lastDigits, decimal};
 
 // The bytes, of which those before a place are used. What goes on the page has room there: nothing is dropped.
@@ -85,6 +85,25 @@ pub fn hex(p: Page, byte: u8) -> Page
     ensures { λ r. ⌜ (r ≡ wrote p (twoDigits byte)) × (r .at ≡ p .at + 2) ⌝ }
 {
     digit(digit(p, byte / 16), byte % 16)
+}
+
+// A number's digits in base 16 go on the page, as many as it has.
+pub fn hexadecimal(p: Page, number: u16) -> Page
+    requires { ⌜ p .at + 4 ≤ 256 ⌝ }
+    ensures { λ r. ⌜ (r ≡ wrote p (hexadecimal number)) × (r .at ≤ p .at + 4) ⌝ }
+{
+    let low = (number % 256) as u8;
+    let high = (number / 256) as u8;
+    if number < 16 {
+        return digit(p, low);
+    }
+    if number < 256 {
+        return hex(p, low);
+    }
+    if number < 4096 {
+        return hex(digit(p, high), low);
+    }
+    hex(hex(p, high), low)
 }
 
 // Bytes go on the page, each behind a blank.

@@ -12,7 +12,7 @@ pub struct Word {
 }
 
 // Does a byte part words?
-fn is_blank(byte: u8) -> bool
+pub fn is_blank(byte: u8) -> bool
     ensures { λ r. ⌜ r ≡ blank byte ⌝ }
 {
     if byte == b' ' {

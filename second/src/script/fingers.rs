@@ -20,14 +20,14 @@ impl Maker {
     }
 
     /// A finger presses a key, now and then one that is down.
-    fn press(&mut self) {
+    pub(super) fn press(&mut self) {
         let (row, column) = self.some_key();
         self.closed[row] |= 1 << column;
         self.finger("press", (row, column));
     }
 
     /// A finger lets a key go, now and then one that is up.
-    fn release(&mut self) {
+    pub(super) fn release(&mut self) {
         let down = self.closed_keys();
         let (row, column) = if down.is_empty() || self.chance.one_in(12) {
             self.some_key()

@@ -1,11 +1,17 @@
 //! The rules through the console's language, with every expected answer written out.
 
 mod accesses;
+mod carry;
 mod fingers;
 mod language;
+mod playing;
 mod readings;
 mod sessions;
+mod there_and_back;
 
+use second::calls::Call;
+use second::carry::pack;
+use second::chance::Chance;
 use second::console::Console;
 
 /// Runs a session of lines `command -> answer` on a module after reset.
@@ -21,4 +27,32 @@ fn session(text: &str) {
 /// A line of one word and the same word many times after it.
 fn repeated(start: &str, word: &str, count: usize) -> String {
     format!("{start}{}", format!(" {word}").repeat(count))
+}
+
+/// The packed list of calls that fit.
+fn packed(calls: &[Call]) -> Vec<u8> {
+    pack(calls, usize::MAX).unwrap()
+}
+
+/// The digits of bytes.
+fn digits(bytes: &[u8]) -> String {
+    bytes.iter().map(|byte| format!("{byte:02X}")).collect()
+}
+
+/// A call that fits in a list.
+fn some_call(chance: &mut Chance) -> Call {
+    match chance.below(4) {
+        0 => Call::Reset,
+        1 => Call::Look((0..8).map(|_| chance.below(0x2000) as u16).collect()),
+        2 => {
+            let count = chance.between(1, 32);
+            Call::Write(chance.byte(), (0..count).map(|_| chance.byte()).collect())
+        }
+        _ => Call::Read(chance.byte(), chance.between(1, 32)),
+    }
+}
+
+/// A list of calls that fit.
+fn some_calls(chance: &mut Chance, most: usize) -> Vec<Call> {
+    (0..chance.between(0, most)).map(|_| some_call(chance)).collect()
 }

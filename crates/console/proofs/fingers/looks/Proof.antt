@@ -6,10 +6,13 @@ use Rattle.console.proofs.fingers.looks.Statement.{statement}
 use Rattle.console.proofs.fingers.looks.Tie as tie
 
 abbrev Inv-loop : tie.InvT-loop
-Inv-loop s count contacts panel₀ number₀ i₀ panel number i = i ≤ count
+Inv-loop s count contacts call tape₀ panel₀ number₀ i₀ tape panel number i = i ≤ count
 
 abbrev μ-loop : tie.MeasureT-loop
-μ-loop s count contacts panel₀ number₀ i₀ panel number i = count - i
+μ-loop s count contacts call tape₀ panel₀ number₀ i₀ tape panel number i = count - i
+
+look-at-requires : tie.Need-look-at-requires Inv-loop μ-loop
+look-at-requires c κs = search needs
 
 loop-holds : tie.Need-loop-holds Inv-loop μ-loop
 loop-holds c = search needs
@@ -19,6 +22,9 @@ slice-aggregate-look c = search needs
 
 look-requires : tie.Need-look-requires Inv-loop μ-loop
 look-requires c κs = search needs
+
+recorded-requires : tie.Need-recorded-requires Inv-loop μ-loop
+recorded-requires c κs = search needs
 
 add-i : tie.Need-add-i Inv-loop μ-loop
 add-i c = search needs
@@ -41,9 +47,11 @@ looks-spec =
     (tie.spec
     Inv-loop
     μ-loop
+    look-at-requires
     loop-holds
     slice-aggregate-look
     look-requires
+    recorded-requires
     add-i
     loop-less
     loop-again

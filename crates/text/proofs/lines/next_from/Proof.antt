@@ -1,16 +1,16 @@
--- `lines::newline_from` meets its contract: the loop goes on to the input's end.
+-- `lines::next_from` meets its contract: the loop goes on to the input's end.
 -- Assumes nothing.
 use Prim.Native.Nat.{_≤_, _-_}
 use lib.ListN.{length}
 use borrow.Author.Needs.{needs}
-use Rattle.text.proofs.lines.newline_from.Statement.{statement}
-use Rattle.text.proofs.lines.newline_from.Tie as tie
+use Rattle.text.proofs.lines.next_from.Statement.{statement}
+use Rattle.text.proofs.lines.next_from.Tie as tie
 
 abbrev Inv-loop : tie.InvT-loop
-Inv-loop input from i₀ i = (from ≤ i) × (i ≤ length input)
+Inv-loop input from wanted i₀ i = (from ≤ i) × (i ≤ length input)
 
 abbrev μ-loop : tie.MeasureT-loop
-μ-loop input from i₀ i = length input - i
+μ-loop input from wanted i₀ i = length input - i
 
 loop-holds : tie.Need-loop-holds Inv-loop μ-loop
 loop-holds c = search needs
@@ -33,8 +33,8 @@ loop-again c = search needs
 returns-2 : tie.Need-returns-2 Inv-loop μ-loop
 returns-2 c = search needs
 
-pub newline-from-spec : {M : Type 1} → statement M
-newline-from-spec =
+pub next-from-spec : {M : Type 1} → statement M
+next-from-spec =
     tie.close
     (tie.spec
     Inv-loop

@@ -1,0 +1,13 @@
+pub mod Anchors
+pub mod Fits
+pub mod Laws
+pub mod Lists
+pub mod Meets
+pub mod Numbered
+pub mod Opened
+pub mod Playing
+pub mod Reading
+pub mod Records
+pub mod Refuted
+pub mod Typed
+pub mod Writing

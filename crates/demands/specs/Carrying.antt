@@ -1,0 +1,51 @@
+-- A SESSION CARRIED from the cutting room to the bench: request E1, over every sequence of calls.
+--
+--    typed c         the call's numbers are of their types: samples of 16 bits, addresses and bytes of 8
+--    kept c          a call, if it fits in a list
+--    noted c         the record of a call: done or declined, if it fits; a question has none
+--    recorded cs     the records of a session, whose calls are newest first; a list has its oldest call first
+--    CarriesSessions K    what the writer wrote of a session plays to the state of that session
+use Prim.Native.Nat.{ℕ, _≤_}
+use mathlib.Core.Path.{_≡_}
+use mathlib.Core.Bool.{Bool, true, _&&_}
+use mathlib.Core.List.{List, [], _∷_, _++_}
+use lib.ListN.{length, take}
+use Rattle.words.specs.Words.{_if_, _else_, all}
+use Rattle.numbers.specs.Numbers.{done}
+use Rattle.bits.specs.Bits.{below}
+use Rattle.carry.specs.Carried as list
+use Rattle.carry.specs.Carried.{Carried, fits, packing}
+use Rattle.carry.specs.Calls.{listed}
+use Rattle.carry.specs.Statements.{Carrier}
+use Rattle.demands.specs.Machine.{Call, reset, look, write, read, held, interrupt, after}
+use Rattle.demands.specs.Ours.{ours}
+
+unfoldable pub typed : Call → Bool
+typed reset = true
+typed (look s) = all (below 16) s
+typed (write a bs) = below 8 a && all (below 8) bs
+typed (read a out) = below 8 a
+typed (held row col) = true
+typed interrupt = true
+
+unfoldable pub kept : Carried → List Carried
+kept c = c ∷ [] if fits c else []
+
+unfoldable pub noted : Call → List Carried
+noted reset = kept list.reset
+noted (look s) = kept (list.look s)
+noted (write a bs) = kept (list.write a bs)
+noted (read a out) = kept (list.read a (length out))
+noted (held row col) = []
+noted interrupt = []
+
+unfoldable pub recorded : List Call → List Carried
+recorded [] = []
+recorded (c ∷ cs) = recorded cs ++ noted c
+
+-- "When an editor reports an odd undo we want the calls that led to it": of any list of numbers that tells a session's calls, and any buffer
+-- that has room for it, the writer makes bytes that play to the state of that session
+pub record CarriesSessions (K : Carrier) : Type 0 where
+  pub carried : (cs : List Call) → all typed cs ≡ true → (ws out : List ℕ) → listed ws ≡ recorded cs → length (packing (recorded cs)) ≤ length out
+      → (K .packs ws out .number ≡ done)
+      × (K .plays (take (K .packs ws out .length) (K .leaves ws out)) ≡ record { after = after ours cs; number = done })
