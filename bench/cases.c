@@ -25,14 +25,19 @@ static const uint16_t typing_looks[][8] = {
     TYPED(0, 1), TYPED(1, 0), TYPED(0, 1), TYPED(0, 0), TYPED(0, 1), TYPED(0, 0), TYPED(0, 0), TYPED(0, 0),
 };
 
+/* The same over and over: a long block, and the looks of a session. */
+static uint16_t long_typing[LISTED][8];
+
 /* A storm: every contact random at every look. */
 static uint16_t storm_looks[STORM][8];
 
 /* A burst: 16 keys at once, one more than the queue holds. */
 static const uint16_t burst_looks[][8] = {{0x0FFF, 0x000F, 0, 0, 0, 0, 0, 0}};
 
-/* Samples with bit 13 set in the last row. */
-static const uint16_t high_looks[][8] = {{0x0002, 0, 0, 0x0020, 0, 0, 0, 0x2000}};
+/* Samples with bit 13 set in the last row: alone, and behind four looks of a block. */
+#define HIGH {0x0002, 0, 0, 0x0020, 0, 0, 0, 0x2000}
+static const uint16_t high_looks[][8] = {HIGH};
+static const uint16_t stopped_looks[][8] = {TYPED(1, 0), TYPED(0, 1), TYPED(1, 0), TYPED(1, 1), HIGH, TYPED(1, 1), TYPED(1, 1), TYPED(1, 1)};
 
 /* A session: a write of KBDBOUNCE and KBDSIZE, then 64 looks of typing; and the same as a packed list. */
 static struct panel_call session[1 + LISTED];
@@ -40,6 +45,7 @@ static uint8_t list[ROOM];
 static uint64_t list_length;
 
 #define LOOKS(name, start, looks, count, number) {name, LOOK, &(start), (const uint16_t(*)[8])(looks), sizeof(looks) / sizeof((looks)[0]), 0, {0, 0}, count, 0, number}
+#define BLOCKS(name, start, looks, calls, count, number) {name, BLOCK, &(start), (const uint16_t(*)[8])(looks), calls, 0, {0, 0}, count, 0, number}
 #define READS(name, start, first, count, number) {name, READ, &(start), 0, 1, first, {0, 0}, count, 0, number}
 #define WRITES(name, start, first, byte, other, count, number) {name, WRITE, &(start), 0, 1, first, {byte, other}, count, 0, number}
 #define ASKS(name, start, row, col, number) {name, HELD, &(start), 0, 1, row, {col, 0}, 0, 0, number}
@@ -52,6 +58,9 @@ const struct measured cases[] = {
     LOOKS("look: storm", calm, storm_looks, 8, 0),
     LOOKS("look: burst of 16", open, burst_looks, 8, 0),
     LOOKS("look: size 22, calm", small, small_looks, 8, 0),
+    BLOCKS("block: 1 look", calm, typing_looks, 16, 1 * 8, 0),
+    BLOCKS("block: 8 looks", calm, typing_looks, 2, 8 * 8, 0),
+    BLOCKS("block: 64 looks", calm, long_typing, 1, 64 * 8, 0),
     READS("read: EVTCODE, 1 code", full, PANEL_EVTCODE, 1, 0),
     READS("read: EVTCODE, 15 codes", full, PANEL_EVTCODE, 15, 0),
     READS("read: EVTCODE, 32 bytes", full, PANEL_EVTCODE, 32, 0),
@@ -72,7 +81,9 @@ const struct measured cases[] = {
     CARRIES("play: 64 looks", PLAY, 1, 0, 0, 0),
     CARRIES("play: declined 20", PLAY, 1, 1, 0, 20),
     LOOKS("declined 1: look", calm, calm_looks, 7, 1),
+    BLOCKS("declined 1: block", calm, long_typing, 1, 64 * 8 - 1, 1),
     LOOKS("declined 2: look", calm, high_looks, 8, 2),
+    BLOCKS("declined 2: block, 4 done", calm, stopped_looks, 1, 8 * 8, 2),
     READS("declined 3: read", full, PANEL_EVTCODE, 0, 3),
     WRITES("declined 3: write", full, PANEL_KBDBOUNCE, 0, 0, 0, 3),
     READS("declined 4: read", full, PANEL_EVTCODE, 33, 4),
@@ -82,6 +93,7 @@ const struct measured cases[] = {
     WRITES("declined 6: write", full, PANEL_KBDBOUNCE, 0x05, 0x1C, 2, 6),
     ASKS("declined 7: held", full, 8, 0, 7),
     LOOKS("declined 8: look", unsound, calm_looks, 8, 8),
+    BLOCKS("declined 8: block", unsound, long_typing, 1, 64 * 8, 8),
     WRITES("declined 8: write", unsound, PANEL_KBDBOUNCE, 0x05, 0, 1, 8),
     READS("declined 8: read", unsound, PANEL_EVTCODE, 15, 8),
     ASKS("declined 8: held", unsound, 7, 12, 8),
@@ -140,6 +152,16 @@ static void make_storm(void)
     }
 }
 
+/* The samples of typing, over and over. */
+static void make_typing(void)
+{
+    unsigned look, row;
+    for (look = 0; look < LISTED; look++) {
+        for (row = 0; row < 8; row++)
+            long_typing[look][row] = typing_looks[look % (sizeof typing_looks / sizeof typing_looks[0])][row];
+    }
+}
+
 /* The modules that the cases begin with. */
 static void make_modules(void)
 {
@@ -167,16 +189,16 @@ static void make_session(void)
         session[1 + look].kind = PANEL_LOOK;
         session[1 + look].count = PANEL_ROWS;
         for (row = 0; row < PANEL_ROWS; row++)
-            session[1 + look].values[row] = typing_looks[look % (sizeof typing_looks / sizeof typing_looks[0])][row];
+            session[1 + look].values[row] = long_typing[look][row];
     }
     gave(panel_pack(session, 1 + LISTED, list, sizeof list, &list_length));
 }
 
-/* The module, buffer, answer, call and place that the calls are made on. */
+/* The module, buffer, answer, lengths, call and place that the calls are made on. */
 static struct panel panel;
 static uint8_t buffer[ROOM];
 static bool yes;
-static uint64_t length;
+static uint64_t length, done;
 static struct panel_call call;
 static struct panel_place place;
 
@@ -186,6 +208,8 @@ static uint8_t make(const struct face *face, const struct measured *measured, un
     switch (measured->call) {
     case LOOK:
         return face->look(&panel, measured->looks[at], measured->count);
+    case BLOCK:
+        return face->looks(&panel, measured->looks[at * measured->count / 8], measured->count, &done);
     case WRITE:
         return face->write(&panel, measured->first, measured->bytes, measured->count);
     case READ:
@@ -222,6 +246,7 @@ bool prepare(const struct face *const *faces, unsigned face_count)
 {
     unsigned i, face;
     make_storm();
+    make_typing();
     make_modules();
     make_session();
     if (declined != PANEL_DONE) {

@@ -1,4 +1,4 @@
-/* The ten calls over pointers, as a table, so that the archive and the plain C can be run in turn. */
+/* The eleven calls over pointers, as a table, so that the archive and the plain C can be run in turn. */
 #ifndef FACE_H
 #define FACE_H
 
@@ -8,6 +8,7 @@ struct face {
     const char *name;
     uint8_t (*reset)(struct panel *panel);
     uint8_t (*look)(struct panel *panel, const uint16_t *samples, uint64_t count);
+    uint8_t (*looks)(struct panel *panel, const uint16_t *samples, uint64_t count, uint64_t *done);
     uint8_t (*write)(struct panel *panel, uint8_t first, const uint8_t *bytes, uint64_t count);
     uint8_t (*read)(struct panel *panel, uint8_t first, uint8_t *buffer, uint64_t count);
     uint8_t (*held)(const struct panel *panel, struct panel_row row, struct panel_col col, bool *yes);

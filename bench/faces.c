@@ -28,7 +28,7 @@ static uint8_t proved_play(struct panel *panel, const uint8_t *bytes, uint64_t c
 }
 
 /* The others are the archive's own. */
-const struct face proved = {"proved", proved_reset, panel_look, panel_write, panel_read, panel_held, panel_interrupt,
+const struct face proved = {"proved", proved_reset, panel_look, panel_looks, panel_write, panel_read, panel_held, panel_interrupt,
                             proved_pack, proved_pack_next, proved_unpack, proved_play};
 
 /* Calls that do nothing: the cost of a turn without them. */
@@ -41,6 +41,12 @@ static uint8_t idle_reset(struct panel *panel)
 static uint8_t idle_look(struct panel *panel, const uint16_t *samples, uint64_t count)
 {
     (void)panel, (void)samples, (void)count;
+    return PANEL_DONE;
+}
+
+static uint8_t idle_looks(struct panel *panel, const uint16_t *samples, uint64_t count, uint64_t *done)
+{
+    (void)panel, (void)samples, (void)count, (void)done;
     return PANEL_DONE;
 }
 
@@ -92,4 +98,5 @@ static uint8_t idle_play(struct panel *panel, const uint8_t *bytes, uint64_t cou
     return PANEL_DONE;
 }
 
-const struct face idle = {"idle", idle_reset, idle_look, idle_write, idle_read, idle_held, idle_interrupt, idle_pack, idle_pack_next, idle_unpack, idle_play};
+const struct face idle = {"idle", idle_reset, idle_look, idle_looks, idle_write, idle_read, idle_held, idle_interrupt,
+                          idle_pack, idle_pack_next, idle_unpack, idle_play};

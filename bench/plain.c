@@ -129,7 +129,7 @@ static bool look_at(struct panel *panel, unsigned row, unsigned col, bool closed
 }
 
 /* One row's sample: the columns of the size, then the special function key. */
-static bool look_along(struct panel *panel, unsigned row, uint16_t sample)
+static inline bool look_along(struct panel *panel, unsigned row, uint16_t sample)
 {
     unsigned col;
     bool changed = false;
@@ -159,21 +159,43 @@ static bool samples_narrow(const uint16_t *samples)
     return true;
 }
 
-/* One look: judged, then done row by row. */
-static uint8_t plain_look(struct panel *panel, const uint16_t *samples, uint64_t count)
+/* One look at a sound module: its samples judged, then done row by row. Within its callers, so that a single look pays nothing for blocks. */
+__attribute__((always_inline)) static inline uint8_t look_over(struct panel *panel, const uint16_t *samples)
 {
     unsigned row;
     bool changed = false;
-    if (!sound(panel))
-        return PANEL_UNSOUND;
-    if (count != PANEL_ROWS)
-        return PANEL_NOT_EIGHT;
     if (!samples_narrow(samples))
         return PANEL_HIGH_BITS;
     for (row = 0; row < rows_of(panel->size); row++)
         changed |= look_along(panel, row, samples[row]);
     if (changed)
         notice(panel);
+    return PANEL_DONE;
+}
+
+/* One look. */
+static uint8_t plain_look(struct panel *panel, const uint16_t *samples, uint64_t count)
+{
+    if (!sound(panel))
+        return PANEL_UNSOUND;
+    if (count != PANEL_ROWS)
+        return PANEL_NOT_EIGHT;
+    return look_over(panel, samples);
+}
+
+/* A block of looks: the module and the length judged once, since a look leaves a sound module sound; then look by look. */
+static uint8_t plain_looks(struct panel *panel, const uint16_t *samples, uint64_t count, uint64_t *done)
+{
+    *done = 0;
+    if (!sound(panel))
+        return PANEL_UNSOUND;
+    if (count % PANEL_ROWS != 0)
+        return PANEL_NOT_EIGHT;
+    for (; *done < count / PANEL_ROWS; ++*done) {
+        uint8_t number = look_over(panel, samples + PANEL_ROWS * *done);
+        if (number != PANEL_DONE)
+            return number;
+    }
     return PANEL_DONE;
 }
 
@@ -651,5 +673,5 @@ static uint8_t plain_play(struct panel *panel, const uint8_t *bytes, uint64_t co
 #define WORD(name) #name
 #define WORDS(name) WORD(name)
 
-const struct face PLAIN = {WORDS(PLAIN), plain_reset, plain_look, plain_write, plain_read, plain_held, plain_interrupt,
+const struct face PLAIN = {WORDS(PLAIN), plain_reset, plain_look, plain_looks, plain_write, plain_read, plain_held, plain_interrupt,
                            plain_pack, plain_pack_next, plain_unpack, plain_play};

@@ -1,6 +1,7 @@
 /*
  * Do the archive and the plain C give the same answers? Random calls on random modules, sound and unsound:
- * the number, every byte of the module, every byte of the buffer and the answer are compared after each. What carries a session stands in lists.c.
+ * the number, every byte of the module, every byte of the buffer, the answer and a block's looks done are compared after each.
+ * What carries a session stands in lists.c.
  */
 #include "lists.h"
 #include "modules.h"
@@ -11,8 +12,9 @@ void *memset(void *to, int byte, size_t count);
 
 enum { CALLS = 150000, ROOM = 320 };
 
-enum call { RESET, LOOK, WRITE, READ, HELD, INTERRUPT };
-static const char *const names[] = {"reset", "look", "write", "read", "held", "interrupt"};
+enum call { RESET, LOOK, BLOCK, WRITE, READ, HELD, INTERRUPT };
+static const char *const names[] = {"reset", "look", "block", "write", "read", "held", "interrupt"};
+enum { KINDS = sizeof names / sizeof names[0] };
 
 /* What a call of each side is given and leaves. */
 struct side {
@@ -20,6 +22,7 @@ struct side {
     struct panel panel;
     uint8_t buffer[ROOM];
     bool yes;
+    uint64_t done;
     uint8_t number;
 };
 
@@ -35,7 +38,7 @@ struct asked {
 };
 
 /* How often each call gave each number. */
-static unsigned given[6][10];
+static unsigned given[KINDS][10];
 
 /* A size, mostly one that is acceptable. */
 static uint8_t some_size(void)
@@ -90,15 +93,37 @@ static uint8_t some_address(void)
     return once_in(10) ? (uint8_t)chance() : known[below(13)];
 }
 
-/* Samples: few contacts closed, or many; seldom a high bit. */
+/* A high bit in one of so many samples. */
+static void spoil(struct asked *asked, unsigned count)
+{
+    asked->samples[below(count)] |= (uint16_t)(0x2000 << below(3));
+}
+
+/* Samples: few contacts closed, or many. */
 static void some_samples(struct asked *asked)
 {
     unsigned row, few = below(2);
     for (row = 0; row < ROOM; row++)
         asked->samples[row] = (uint16_t)((few ? chance() & chance() & chance() : chance()) & 0x1FFF);
+}
+
+/* A look: seldom a high bit. */
+static void some_look(struct asked *asked)
+{
+    some_samples(asked);
     if (once_in(12))
-        asked->samples[below(8)] |= (uint16_t)(0x2000 << below(3));
+        spoil(asked, 8);
     asked->count = some_count(8);
+}
+
+/* A block of up to 16 looks, seldom more, now and then another length; often a high bit or two. */
+static void some_block(struct asked *asked)
+{
+    unsigned bad, looks = below(once_in(10) ? 41 : 17);
+    some_samples(asked);
+    for (bad = once_in(2) ? below(3) : 0; bad > 0 && looks > 0; bad--)
+        spoil(asked, 8 * looks);
+    asked->count = once_in(8) ? below(ROOM + 1) : 8 * looks;
 }
 
 /* An access: sizes, small numbers and any bytes, few at a time. */
@@ -121,11 +146,13 @@ static void some_key(struct asked *asked)
 /* A random call. */
 static struct asked some_call(void)
 {
-    static const enum call calls[] = {LOOK, LOOK, LOOK, LOOK, WRITE, WRITE, READ, READ, READ, HELD, INTERRUPT};
+    static const enum call calls[] = {LOOK, LOOK, LOOK, LOOK, BLOCK, WRITE, WRITE, READ, READ, READ, HELD, INTERRUPT};
     static struct asked asked;
-    asked.call = once_in(60) ? RESET : calls[below(11)];
+    asked.call = once_in(60) ? RESET : calls[below(12)];
     if (asked.call == LOOK)
-        some_samples(&asked);
+        some_look(&asked);
+    if (asked.call == BLOCK)
+        some_block(&asked);
     if (asked.call == WRITE || asked.call == READ)
         some_bytes(&asked);
     if (asked.call == HELD)
@@ -143,6 +170,9 @@ static void make(struct side *side, const struct asked *asked)
     case LOOK:
         side->number = side->face->look(&side->panel, asked->samples, asked->count);
         break;
+    case BLOCK:
+        side->number = side->face->looks(&side->panel, asked->samples, asked->count, &side->done);
+        break;
     case WRITE:
         side->number = side->face->write(&side->panel, asked->first, asked->bytes, asked->count);
         break;
@@ -158,15 +188,18 @@ static void make(struct side *side, const struct asked *asked)
     }
 }
 
-/* Did both give the same number and answer, and leave the same bytes? */
+/* Did both give the same number, answer and looks done, and leave the same bytes? */
 static bool agree(const struct side *a, const struct side *b)
 {
-    return a->number == b->number && a->yes == b->yes && memcmp(&a->panel, &b->panel, sizeof a->panel) == 0 && memcmp(a->buffer, b->buffer, ROOM) == 0;
+    if (a->number != b->number || a->yes != b->yes || a->done != b->done)
+        return false;
+    return memcmp(&a->panel, &b->panel, sizeof a->panel) == 0 && memcmp(a->buffer, b->buffer, ROOM) == 0;
 }
 
-/* Before some calls both modules become another one, or are hurt alike. */
+/* Before some calls both modules become another one, or are hurt alike; before each, where a block's looks are told holds anything. */
 static void disturb(struct side *a, struct side *b)
 {
+    a->done = b->done = ~(uint64_t)chance();
     if (once_in(20))
         a->panel = some_panel();
     if (once_in(20))
@@ -189,7 +222,7 @@ static bool compare(const struct face *one, const struct face *other)
         make(&a, &asked);
         make(&b, &asked);
         if (!agree(&a, &b)) {
-            printf("call %u, %s: %s gives %u, %s gives %u, or module, buffer or answer differ\n", i, names[asked.call], one->name, a.number, other->name, b.number);
+            printf("call %u, %s: %s gives %u, %s gives %u, or what is left differs\n", i, names[asked.call], one->name, a.number, other->name, b.number);
             return false;
         }
         given[asked.call][a.number]++;
@@ -200,11 +233,11 @@ static bool compare(const struct face *one, const struct face *other)
 /* Says how often each number came; false if one that a call can give never did. */
 static bool all_given(void)
 {
-    static const char *const can[] = {"0", "0128", "034568", "03458", "078", "08"};
+    static const char *const can[] = {"0", "0128", "0128", "034568", "03458", "078", "08"};
     const char *digit;
     unsigned call;
     bool all = true;
-    for (call = 0; call < 6; call++) {
+    for (call = 0; call < KINDS; call++) {
         printf("  %s:", names[call]);
         for (digit = can[call]; *digit; digit++) {
             printf(" number %c %u times%s", *digit, given[call][*digit - '0'], digit[1] ? "," : "\n");

@@ -23,6 +23,18 @@ END {
     day("unpacked", "unpack: a look", 1)
     day("played", "play: 64 looks", 64)
     print ""
+    block("block: 1 look", 1)
+    block("block: 8 looks", 8)
+    block("block: 64 looks", 64)
+    print ""
+}
+
+# A look in a block of so many, beside one alone.
+function block(name, looks,    single) {
+    single = "look: typing"
+    printf "A look in a block of %d: %.0f instructions, alone %.0f (plain C at -O2 %.0f and %.0f)", looks, cost[name, 1] / looks, cost[single, 1], cost[name, 5] / looks, cost[single, 5]
+    if (name in links) printf "; %.0f ns, alone %.0f (%.0f and %.0f)", median(name, 1) / looks, median(single, 1), median(name, 2) / looks, median(single, 2)
+    print ""
 }
 
 # A day of looks, one every 4 ms, worked out from a case that has so many of them.

@@ -15,16 +15,17 @@
  *     number = panel_play(&other, list, panel_packed(place));
  *
  * Each call gives a number. PANEL_DONE: the call was done. Any other: it was declined, neither the module nor a byte of the buffer is altered,
- * and a question's answer is no. A number is given exactly when its condition holds and none before it in the call's list does.
+ * and a question's answer is no. There is one exception: a block of looks that stops at a look keeps the looks before it.
+ * A number is given exactly when its condition holds and none before it in the call's list does.
  *
  * Link with libpanel.a, which `rt staticlib panel` writes for x86-64; panel_play is in libplayer.a, by `rt staticlib player`, so that a panel that
  * only records does without it. They need memcpy and the like, and nothing else.
  *
- * What the ten calls do is proved, for every module, every argument and every length. Outside the proof, and so for the caller to see to:
+ * What the eleven calls do is proved, for every module, every argument and every length. Outside the proof, and so for the caller to see to:
  *   - every bool of a `struct panel`, and the bool that takes an answer, is the byte 0 or 1 before the call. Soundness doesn't see another
  *     byte there, so ask panel_bools_ok of a module that comes from storage; panel_reset and panel_play ask nothing of the memory that they fill;
  *   - a pointer is valid for its length, and not null, also when the length is 0 and when the call is declined;
- *   - module, samples, bytes, buffer and answer don't overlap, nor do calls, packed list, length, place and end;
+ *   - module, samples, bytes, buffer, answer and `done` don't overlap, nor do calls, packed list, length, place and end;
  *   - one call at a time on one module, interrupt routines included, and the questions too: a call in the midst of another sees half of it.
  *     Calls on two modules never meet;
  *   - the C compiler, and the inline functions of this file.
@@ -40,8 +41,8 @@
  * This header's version, 10000 x first + 100 x second + third. The first rises when a caller must be changed or compiled again: another layout,
  * another meaning of a call. The second rises when something is added, the third when only words change. Header and archive are of one version.
  */
-#define PANEL_VERSION 20100
-#define PANEL_VERSION_TEXT "2.1.0"
+#define PANEL_VERSION 20200
+#define PANEL_VERSION_TEXT "2.2.0"
 
 /* On a call that gives a number: the compiler warns if nobody looks at it. */
 #if defined(__GNUC__)
@@ -57,14 +58,14 @@ extern "C" {
 /* The numbers that a call can give. 9 was given by no call, is retired and gets no new use. */
 enum panel_number {
     PANEL_DONE = 0,
-    PANEL_NOT_EIGHT = 1,   /* look: the list isn't eight samples */
-    PANEL_HIGH_BITS = 2,   /* look: some sample has bit 13, 14 or 15 set */
+    PANEL_NOT_EIGHT = 1,   /* look: the list isn't eight samples; block: its length isn't a multiple of eight */
+    PANEL_HIGH_BITS = 2,   /* look, also one of a block: some sample has bit 13, 14 or 15 set */
     PANEL_NO_BYTES = 3,    /* access: no bytes */
     PANEL_TOO_MANY = 4,    /* access: more than 32 bytes */
     PANEL_NOT_ALLOWED = 5, /* access: some address of the run is unknown, or can't be read or written as asked */
     PANEL_BAD_SIZE = 6,    /* write: a byte for KBDSIZE isn't acceptable */
     PANEL_NO_KEY = 7,      /* held question: row above 7 or column above 12 */
-    PANEL_UNSOUND = 8,     /* look, access, question: the module isn't sound; never after calls from reset alone */
+    PANEL_UNSOUND = 8,     /* look, block, access, question: the module isn't sound; never after calls from reset alone */
     PANEL_CUT_SHORT = 20,  /* packed list: cut short or padded wrongly */
     PANEL_NO_ROOM = 21     /* packing: the buffer is too short */
 };
@@ -138,7 +139,7 @@ struct panel_col {
     uint8_t col;
 };
 
-/* The kinds of a call in a list. */
+/* The kinds of a call in a list. A block of looks goes there look by look. */
 enum panel_kind {
     PANEL_LOOK = 0,
     PANEL_WRITE = 1,
@@ -165,6 +166,14 @@ struct panel_place {
  * Numbers: PANEL_UNSOUND, PANEL_NOT_EIGHT, PANEL_HIGH_BITS, else PANEL_DONE.
  */
 PANEL_NUMBER uint8_t panel_look(struct panel *panel, const uint16_t *samples, uint64_t count);
+
+/*
+ * A block of looks: samples, eight to a look, and what single looks do with them, in order. An empty one does nothing.
+ * It stops at a look that is declined: the looks before it are kept, and neither it nor any behind it is made.
+ * How many looks were done goes to `done`, whatever it held before: count / 8 with PANEL_DONE, 0 with PANEL_UNSOUND and PANEL_NOT_EIGHT.
+ * Numbers: PANEL_UNSOUND, PANEL_NOT_EIGHT (by the length alone), PANEL_HIGH_BITS (of the look that it stops at), else PANEL_DONE.
+ */
+PANEL_NUMBER uint8_t panel_looks(struct panel *panel, const uint16_t *samples, uint64_t count, uint64_t *done);
 
 /*
  * A write access: bytes to the registers from `first` on, each taking effect in order.

@@ -8,22 +8,21 @@ BEGIN {
     answer_column = 30; words_column = 46; width = 100
 }
 
-# goes to the next line that asks for something, which is then in `asked`; behind a `quit` there is none
-function next_asked() {
-    while (!over && (getline asked < script) > 0) {
-        over = quits(asked)
-        if (asks(asked) && !over) return 1
-        print asked
-    }
-    return 0
-}
-
 # a line as it is shown: blanks for tabs, and a very long one cut
 function shown(line) {
     sub(/\r$/, "", line)
     gsub(/\t/, " ", line)
     if (length(line) > 200) gsub(/ +/, " ", line)
     return length(line) > 200 ? substr(line, 1, 60) " .." : line
+}
+
+# a line that needs several: a block of looks is cut only between them, and they stand apart
+function by_looks(line,    word, n, i, all) {
+    if (!is_block(line)) return line
+    n = split(line, word, " ")
+    all = word[1]
+    for (i = 2; i <= n; i++) all = all (i % 8 == 2 ? " " : "\001") word[i] (i % 8 == 1 && i < n ? "\001" : "")
+    return all
 }
 
 # a text made so long by blanks; at least two follow it
@@ -45,10 +44,18 @@ function read_words(address, bytes, n,    i, all, one) {
     return all
 }
 
+# the words of a block of looks: how many were done, and why the next was not
+function block_words(number, done,    all) {
+    if (done > 0) all = done (done == 1 ? " look" : " looks") " done"
+    if (number == "0") return all
+    return (done > 0 ? all ", the next " : "") declined_words(number)
+}
+
 # the words to the right of an answer; none if it speaks for itself
 function words_of(line, answer,    word, given, n) {
     if (answer ~ /^[?]/) return ""
     n = split(answer, given, " ")
+    if (is_block(line)) return block_words(given[1], given[2])
     if (given[1] != "0") return declined_words(given[1])
     split(line, word, " ")
     return word[1] == "read" ? read_words(value(word[2]), given, n) : ""
@@ -59,17 +66,26 @@ function fold(text, column, further,    word, n, i, line) {
     n = split(text, word, " ")
     line = sprintf("%" column "s", "")
     for (i = 1; i <= n; i++) {
-        if (i > 1 && length(line) + 1 + length(word[i]) > width) { print line; line = sprintf("%" column + further "s", "") word[i]; continue }
+        if (i > 1 && length(line) + 1 + length(word[i]) > width) { restored(line); line = sprintf("%" column + further "s", "") word[i]; continue }
         line = line (i > 1 ? " " : "") word[i]
     }
-    print line
+    restored(line)
+}
+
+# does an answer stand below its line? Behind the samples of a block it would look like one more
+function is_below(left, answer) {
+    return length(padded(left, answer_column) answer) > width || is_block(left) && length(left) > answer_column - 2
 }
 
 # a line, its answer, and the words to the right of it, in as many lines as they need
 function show(left, answer, words,    line, word, n, i, filled) {
-    line = padded(shown(left), answer_column) answer
+    left = shown(left)
+    line = padded(left, answer_column) answer
+    if (is_below(left, answer)) {
+        if (length(left) > width) fold(by_looks(left), 0, 4); else print left
+        line = padded("", answer_column) answer
+    }
     if (length(line) > width) {
-        fold(shown(left), 0, 4)
         fold(answer, answer_column, 0)
         line = ""
         if (words == "") return
@@ -84,19 +100,19 @@ function show(left, answer, words,    line, word, n, i, filled) {
     restored(line)
 }
 
-function restored(line) { gsub(/\001/, " ", line); print line }
+function restored(line) { sub(/\001$/, "", line); gsub(/\001/, " ", line); print line }
 
 # the further lines of an answer that has many
 within { print "    " $0; within = $0 != "."; next }
 
-!next_asked() { show("", $0, ""); missing = missing "an answer without a line\n"; next }
+!next_asked(script, 1) { show("", $0, ""); missing = missing "an answer without a line\n"; next }
 
 /^[0-9?]/ { show(asked, $0, words_of(asked, $0)); if (/^[?]/) bad = 1; next }
 
-{ print shown(asked); print "    " $0; within = $0 != "." }
+{ print shown(asked); print "    " $0; within = has_more($0) }
 
 END {
-    while (next_asked()) { show(asked, "(no answer)", ""); bad = 1 }
+    while (next_asked(script, 1)) { show(asked, "(no answer)", ""); bad = 1 }
     if (missing != "") { printf "%s", missing; bad = 1 }
     exit bad
 }

@@ -34,6 +34,7 @@ show_scripts() {
 }
 
 # draw_timeline FILE: the session drawn, looks across and keys down. Status 1 as above.
+# It runs twice: first for the answers, by which blocks of looks are taken apart.
 draw_timeline() {
-    LC_ALL=C awk -f "$root/tools/words.awk" -f "$root/tools/shows.awk" <"$1" | run | over "$1" timeline
+    run <"$1" | over "$1" shows | run | over "$1" timeline
 }

@@ -2,7 +2,7 @@
 # words.awk comes before it.
 # A column, three wide, is a look, a reset, a write of KBDSIZE or a list that was played; the looks of a `press`, `release` or `wait` are one column, with the number
 # of the last, since a contact that stays as it is makes its key change once at most. A declined look takes a column too, marked x, but no
-# number: nothing has happened to the panel.
+# number: nothing has happened to the panel. Each look of a block has its own column, up to the declined one.
 # Every key that is ever held has a row: its code in the look in which it was believed, a bar while it is held, its code in the look
 # in which it was let go.
 # Of what `show` draws, the lines of rows and the codes that wait are read: # and - are signs of a held key. A change whose code
@@ -10,15 +10,6 @@
 # Each line of a block is a label and a cell for each column, so that further lines can stand below. Exit status 1 if a line was answered by a question mark.
 
 BEGIN { script = ENVIRON["SCRIPT"]; label = "%-10s"; columns = 30; expected = "answer"; bounce = 3 }
-
-# the line of the script that is answered now; behind a `quit` there is none
-function next_asked() {
-    while ((getline asked < script) > 0 && !quits(asked)) {
-        at++
-        if (asks(asked)) { sub(/\r$/, "", asked); return 1 }
-    }
-    return 0
-}
 
 # the held keys of a row that is drawn: a sign for each column, then that of the special-function key
 function read_row(    col) {
@@ -31,9 +22,13 @@ function read_waiting(    i) {
     for (i = 1; i <= waits; i++) code_at[i] = $(i + 1)
 }
 
-# how many looks a command asks for; 0 if it is no command of looks
+# has the line that is answered one answer more? shows.awk makes a block of each look that was done, and a last one of what is left
+function goes_on() { return is_block(asked) && answer == "0 1" }
+
+# how many looks a command asks for; 0 if it is no command of looks, or a block of none
 function looks_of(word) {
     if (word[1] == "look") return 1
+    if (word[1] == "looks") return answer != "0 0"
     if (word[1] == "press" || word[1] == "release") return bounce > 0 ? bounce : 1
     return word[1] == "wait" ? word[2] + 0 : 0
 }
@@ -78,12 +73,12 @@ function restarted(mark,    key) {
 
 # the call is over: it is drawn, and the panel is as it was shown
 function call_done(    word, n, made, first, key) {
-    n = split(asked, word, " ")
+    n = words_in(asked, word)
     first = value(word[2])
     made = looks_of(word)
     if (made > 0 && answer ~ /^[0-9]/) {
         width++
-        if (answer == "0") looks_done(made); else look_declined()
+        if (answer ~ /^0/) looks_done(made); else look_declined()
     }
     if (word[1] == "reset" && answer == "0") restarted("R")
     if (word[1] == "play" && answer == "0") { restarted("P"); played = 1 }
@@ -95,9 +90,9 @@ function call_done(    word, n, made, first, key) {
 }
 
 expected == "answer" {
-    if (!next_asked()) { print "an answer without a line: " $0; bad = 1; exit }
+    if (!goes_on() && !next_asked(script)) { print "an answer without a line: " $0; bad = 1; exit }
     answer = $0
-    expected = /^[0-9?]/ || $0 == "." ? "show" : "rest"
+    expected = has_more($0) ? "rest" : "show"
     if (/^[?]/) { print "panel: line " at " was answered by " $0 > "/dev/stderr"; bad = 1 }
     split("", now)
     next
@@ -143,7 +138,7 @@ function block_out(from, to,    i, key) {
 }
 
 END {
-    if (expected != "answer" || next_asked()) { print "no answer to line " at " of the script"; bad = 1 }
+    if (expected != "answer" || goes_on() || next_asked(script)) { print "no answer to line " at " of the script"; bad = 1 }
     if (!width) print "nothing to draw: no look, no reset, no write of KBDSIZE and no list played\n"
     for (from = 1; from <= width; from += columns) block_out(from, from + columns - 1 < width ? from + columns - 1 : width)
     print "05= pressed, === held, 85 let go, ** its code was dropped, | opened by R or S; x a declined look"

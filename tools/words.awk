@@ -1,4 +1,4 @@
-# What the tools share: which lines ask for something; codes, numbers and bytes in words.
+# What the tools share: which lines ask for something, and which answers have many lines; codes, numbers and bytes in words.
 
 # does a line ask for something? A line that is too long is always answered
 function asks(line) {
@@ -11,6 +11,33 @@ function asks(line) {
 function quits(line) {
     sub(/\r$/, "", line)
     return line ~ /^[ \t]*quit[ \t]*$/
+}
+
+# goes to the next line of a script that asks for something, which is then in `asked`, and its number in `at`; behind a `quit` there is none.
+# What is passed over is printed if it is to be seen
+function next_asked(script, seen) {
+    while (!over && (getline asked < script) > 0) {
+        over = quits(asked)
+        at++
+        if (asks(asked) && !over) return 1
+        if (seen) print asked
+    }
+    return 0
+}
+
+# does an answer that begins with this line have more of them, up to one of one full stop?
+function has_more(line) { return line !~ /^[0-9?]/ && line != "." }
+
+# the words of a line
+function words_in(line, word) {
+    sub(/\r$/, "", line)
+    return split(line, word, " ")
+}
+
+# is a line a block of looks?
+function is_block(line,    word) {
+    words_in(line, word)
+    return word[1] == "looks"
 }
 
 # the value of a word in base 16

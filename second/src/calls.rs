@@ -1,4 +1,5 @@
-//! The six calls of document 01, which a console makes of its module, and a call as a value.
+//! The six calls of document 01 and the block of looks of document 02 (E2), which a console makes of
+//! its module, and a call as a value.
 
 /// What any key module answers: a number for each call, and a question's answer with it.
 pub trait Calls {
@@ -7,6 +8,9 @@ pub trait Calls {
 
     /// One look, with one sample per row.
     fn look(&mut self, list: &[u16]) -> u8;
+
+    /// A block of looks, eight samples each: the number, and how many looks were done.
+    fn looks(&mut self, list: &[u16]) -> (u8, usize);
 
     /// The write access.
     fn write(&mut self, first: u8, bytes: &[u8]) -> u8;
@@ -21,7 +25,7 @@ pub trait Calls {
     fn interrupt(&self) -> (u8, bool);
 }
 
-/// A call with what it is given. Questions are not among them.
+/// A call with what it is given. Questions and blocks are not among them.
 #[derive(Clone, Debug, PartialEq)]
 pub enum Call {
     Reset,

@@ -8,8 +8,8 @@ use crate::calls::Call;
 use crate::carry::{pack, unpack};
 use crate::console::{end, Console};
 use crate::script::Line;
-use crate::typed::{calls, list, spaced, text};
-use crate::words::{shown, words};
+use crate::typed::{calls, list, sampled, spaced, text};
+use crate::words::{samples, shown, words};
 use std::ffi::OsString;
 use std::io::{self, Write};
 use std::process::{Command, Stdio};
@@ -94,7 +94,7 @@ pub fn cut_down(script: &[Line], differs: &mut Differs) -> Vec<Line> {
     loop {
         chunk = (chunk / 2).max(1);
         let dropped = drop_chunks(&mut kept, chunk, differs);
-        if chunk == 1 && !dropped && !quieten(&mut kept, differs) && !shorten(&mut kept, differs) {
+        if chunk == 1 && !dropped && !shorten(&mut kept, differs) && !quieten(&mut kept, differs) {
             return kept;
         }
     }
@@ -126,90 +126,117 @@ fn drop_chunks(kept: &mut Vec<Line>, chunk: usize, differs: &mut Differs) -> boo
     kept.len() < before
 }
 
-/// Opens the contacts that are not needed, whole rows first.
-fn quieten(kept: &mut Vec<Line>, differs: &mut Differs) -> bool {
-    let mut changed = false;
-    let masks = std::iter::once(0).chain((0..16).map(|bit| !(1 << bit)));
-    for mask in masks.collect::<Vec<u16>>() {
-        let mut place = 0;
-        while place < 8 * kept.len() {
-            let (line, row) = (place / 8, place % 8);
-            if let Some(quieter) = with_row_masked(&kept[line], row, mask) {
-                let mut candidate = kept.clone();
-                candidate[line] = quieter;
-                changed |= keep_if(kept, candidate, differs);
-            }
-            place += 1;
-        }
-    }
-    changed
-}
+/// A line with less in a stretch of its parts, from a place on, if it has less then.
+type Plainer<'a> = dyn Fn(&[u8], usize, usize) -> Option<Line> + 'a;
 
-/// A look of eight samples with fewer closed contacts in one row, if there are fewer then.
-fn with_row_masked(line: &[u8], row: usize, mask: u16) -> Option<Line> {
-    let mut words = std::str::from_utf8(line).ok()?.split_whitespace();
-    let is_look = words.next() == Some("look");
-    let samples: Result<Vec<u16>, _> = words.map(|word| u16::from_str_radix(word, 16)).collect();
-    let mut samples = samples.ok()?;
-    if !is_look || samples.len() != 8 || samples[row] & mask == samples[row] {
-        return None;
-    }
-    samples[row] &= mask;
-    let words: Vec<String> = samples.iter().map(|sample| format!("{sample:04X}")).collect();
-    Some(format!("look {}", words.join(" ")).into_bytes())
-}
-
-/// Leaves calls out of the lists, half of a list first. Of very long lists some are left that are
-/// not needed.
-fn shorten(kept: &mut Vec<Line>, differs: &mut Differs) -> bool {
+/// Makes lines of several parts plainer, all parts of a line first. Of very long lines some is left
+/// that is not needed.
+fn make_plainer(
+    kept: &mut Vec<Line>,
+    parts: fn(&[u8]) -> usize,
+    plainer: &Plainer,
+    differs: &mut Differs,
+) -> bool {
     let mut changed = false;
     for line in 0..kept.len() {
-        let most = kept.get(line).and_then(|line| calls_of(line)).map_or(0, |calls| calls.len());
+        let most = kept.get(line).map_or(0, |line| parts(line));
         let mut count = most;
-        while count > most / 64 {
-            changed |= leave_out(kept, line, count, differs);
+        // Nothing is tried of a line that can't be plainer.
+        let can_be = |line: &Line| plainer(line, 0, most).is_some();
+        while count > most / 64 && kept.get(line).map_or(false, can_be) {
+            for place in (0..most).step_by(count) {
+                while replace(kept, line, |line| plainer(line, place, count), differs) {
+                    changed = true;
+                }
+            }
             count /= 2;
         }
     }
     changed
 }
 
-/// Leaves every stretch of `count` calls out of a line's list that is not needed.
-fn leave_out(kept: &mut Vec<Line>, line: usize, count: usize, differs: &mut Differs) -> bool {
-    let (mut changed, mut place) = (false, 0);
-    while let Some(shorter) = kept.get(line).and_then(|line| without_calls(line, place, count)) {
+/// Puts a plainer line in the place of another, if there is one and it still leads to a difference.
+fn replace(
+    kept: &mut Vec<Line>,
+    line: usize,
+    plainer: impl Fn(&[u8]) -> Option<Line>,
+    differs: &mut Differs,
+) -> bool {
+    kept.get(line).and_then(|line| plainer(line)).map_or(false, |plain| {
         let mut candidate = kept.clone();
-        candidate[line] = shorter;
-        if keep_if(kept, candidate, differs) {
-            changed = true;
-        } else {
-            place += count;
-        }
-    }
-    changed
+        candidate[line] = plain;
+        keep_if(kept, candidate, differs)
+    })
 }
 
-/// The calls of a line's list, if it has one.
+/// Leaves calls out of the lists and looks out of the blocks.
+fn shorten(kept: &mut Vec<Line>, differs: &mut Differs) -> bool {
+    let count = |line: &[u8]| calls_of(line).map_or(0, |calls| calls.len());
+    make_plainer(kept, count, &without_calls, differs)
+}
+
+/// The calls of a line's list, or the looks of its block, if it has one. The last look of a block
+/// may be short.
 fn calls_of(line: &[u8]) -> Option<Vec<Call>> {
     match words(line).as_slice() {
         [b"pack", _, rest @ ..] => calls(rest).ok(),
         [b"unpack" | b"play", rest @ ..] => unpack(&list(rest).ok()?),
+        [b"looks", rest @ ..] => {
+            Some(samples(rest).ok()?.chunks(8).map(|look| Call::Look(look.to_vec())).collect())
+        }
         _ => None,
     }
 }
 
-/// A line with fewer calls in its list, if it has any from that place on.
+/// A line with fewer calls in its list or its block, if it has any from that place on.
 fn without_calls(line: &[u8], place: usize, count: usize) -> Option<Line> {
     let mut calls = calls_of(line).filter(|calls| place < calls.len())?;
     calls.drain(place..calls.len().min(place + count));
+    let texts = || calls.iter().map(text).collect::<Vec<_>>();
     let line = match words(line).as_slice() {
-        [b"pack", room, ..] => {
-            let texts: Vec<String> = calls.iter().map(text).collect();
-            format!("pack {} {}", shown(room), texts.join(" ; "))
-        }
+        [b"pack", room, ..] => format!("pack {} {}", shown(room), texts().join(" ; ")),
+        [b"looks", ..] => format!("looks{}", texts().concat().replace("look", "")),
         words => format!("{}{}", shown(words.first()?), spaced(&pack(&calls, usize::MAX).ok()?)),
     };
     Some(line.into_bytes())
+}
+
+/// Opens the contacts that are not needed, whole rows first.
+fn quieten(kept: &mut Vec<Line>, differs: &mut Differs) -> bool {
+    let mut changed = false;
+    let masks = std::iter::once(0).chain((0..16).map(|bit| !(1 << bit)));
+    for (mask, row) in masks.flat_map(|mask| (0..8).map(move |row| (mask, row))) {
+        let quieter = |line: &[u8], place, count| with_row_masked(line, (row, mask), place, count);
+        changed |= make_plainer(kept, count_looks, &quieter, differs);
+    }
+    changed
+}
+
+/// The samples of a look or of a block of looks, with the command before them.
+fn samples_of(line: &[u8]) -> Option<(String, Vec<u16>)> {
+    match words(line).as_slice() {
+        [name @ (b"look" | b"looks"), rest @ ..] => Some((shown(name), samples(rest).ok()?)),
+        _ => None,
+    }
+}
+
+/// How many looks a line has, a last short one included.
+fn count_looks(line: &[u8]) -> usize {
+    samples_of(line).map_or(0, |(_, samples)| samples.chunks(8).len())
+}
+
+/// A line with fewer closed contacts in one row of some of its looks, if there are fewer then.
+fn with_row_masked(
+    line: &[u8],
+    (row, mask): (usize, u16),
+    place: usize,
+    count: usize,
+) -> Option<Line> {
+    let (command, before) = samples_of(line)?;
+    let mut samples = before.clone();
+    let rows = samples.iter_mut().skip(8 * place + row).step_by(8);
+    rows.take(count).for_each(|sample| *sample &= mask);
+    Some(sampled(&command, &samples).into_bytes()).filter(|_| samples != before)
 }
 
 /// Compares a program with the second module on a script. Says whether they are the same.

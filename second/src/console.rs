@@ -8,7 +8,7 @@ use crate::calls::{Call, Calls};
 use crate::carry::{judge, pack, unpack, NO_LIST};
 use crate::module::Module;
 use crate::typed::{call, calls, list, spaced, text};
-use crate::words::{byte, none, number, one, place, shown, two, words, Wrong};
+use crate::words::{byte, none, number, one, place, samples, shown, two, words, Wrong};
 
 /// The longest line that is held, before its newline, a CR included.
 pub const LONGEST: usize = 16_384;
@@ -149,6 +149,7 @@ impl Console {
     fn command(&mut self, name: &[u8], words: &[&[u8]]) -> Answer {
         match name {
             b"reset" | b"look" | b"write" | b"read" => Ok(self.ask(call(name, words)?)),
+            b"looks" => self.block(words),
             b"press" => self.press(words),
             b"release" => self.release(words),
             b"wait" => self.wait(words),
@@ -177,11 +178,16 @@ impl Console {
         let (number, bytes) = call.made(self.module.as_mut());
         if let Call::Look(samples) = &call {
             if number == 0 {
-                self.contacts.iter_mut().zip(samples).for_each(|(row, sample)| *row = *sample);
+                self.set(samples);
             }
         }
         self.keep(call);
         (number, bytes)
+    }
+
+    /// Sets the contacts to the samples of a look.
+    fn set(&mut self, samples: &[u16]) {
+        self.contacts.iter_mut().zip(samples).for_each(|(row, sample)| *row = *sample);
     }
 
     /// Keeps a call if the session is recorded and a list can hold it.
@@ -189,6 +195,17 @@ impl Console {
         if let Some(record) = self.record.as_mut().filter(|_| judge(&call) == 0) {
             record.push(call);
         }
+    }
+
+    /// `looks S0 S1 ..`: contacts and recording are as after the looks that were done.
+    fn block(&mut self, words: &[&[u8]]) -> Answer {
+        let list = samples(words)?;
+        let (number, done) = self.module.looks(&list);
+        for samples in list.chunks(8).take(done) {
+            self.set(samples);
+            self.keep(Call::Look(samples.to_vec()));
+        }
+        Ok(format!("{number} {done}"))
     }
 
     /// `press ROW COL`

@@ -5,14 +5,14 @@ use crate::console::LONGEST;
 use crate::script::Line;
 
 /// Lines with something wrong: they all get a `?` answer.
-pub const WRONG: [&str; 194] = [
+pub const WRONG: [&str; 218] = [
     "foo",
     "?",
     "0",
     "RESET",
     "Look 0 0 0 0 0 0 0 0",
     "IRQ",
-    "looks 0 0 0 0 0 0 0 0",
+    "looked 0 0 0 0 0 0 0 0",
     "loo",
     "irqs",
     "QUIT",
@@ -88,6 +88,22 @@ pub const WRONG: [&str; 194] = [
     "look 0 0 0 0 0 0 0 g",
     "look 0,0,0,0,0,0,0,0",
     "look 0x0002 0 0 0 0 0 0 0",
+    "Looks 0 0 0 0 0 0 0 0",
+    "LOOKS",
+    "lookss",
+    "looks0 0 0 0 0 0 0 0",
+    "help looks",
+    "looks g",
+    "looks -1 0 0 0 0 0 0 0",
+    "looks 0,0,0,0,0,0,0,0",
+    "looks 0x0002 0 0 0 0 0 0 0",
+    "looks 0 0 0 0 0 0 0 0 ; 0 0 0 0 0 0 0 0",
+    "looks 0 0 0 0 0 0 0 0;looks 0 0 0 0 0 0 0 0",
+    "looks 0 0 0 0 0 0 0 0 0 0 0 0 0 0 0 g",
+    "looks 2 2 2 2 2 2 2 2 2 2 2 2 2 2 2 2 x",
+    "looks 0 0 0 0 0 0 0 2000 x 0 0 0 0 0 0 0",
+    "looks # none",
+    "looks look 0 0 0 0 0 0 0 0",
     "read 100 1",
     "read 10 1025",
     "read 10 4294967297",
@@ -112,6 +128,10 @@ pub const WRONG: [&str; 194] = [
     "wait 4294967297",
     "look 10000 0 0 0 0 0 0 0",
     "look 1FFFF 1FFFF 1FFFF 1FFFF 1FFFF 1FFFF 1FFFF 10000000000000000",
+    "looks 10000 0 0 0 0 0 0 0",
+    "looks 2 2 2 2 2 2 2 2 2 2 2 2 2 2 2 10000",
+    "looks 0 0 0 0 0 0 0 0 10000000000000002",
+    "looks FFFF 0 0 0 0 0 0 0 10000 0 0 0 0 0 0 0",
     "pack",
     "pack reset",
     "pack x",
@@ -160,6 +180,10 @@ pub const WRONG: [&str; 194] = [
     "pack 10 look 0,0,0,0,0,0,0,0",
     "pack 10 look 1 ; look x",
     "pack 10 look 0x1 ; reset",
+    "pack 10 looks",
+    "pack 10 looks 0",
+    "pack 99 looks 0 0 0 0 0 0 0 0",
+    "pack 99 reset ; looks 0 0 0 0 0 0 0 0",
     "pack 10 write",
     "pack 10 write ; reset",
     "pack 10 write 100 01",
@@ -203,7 +227,7 @@ pub const WRONG: [&str; 194] = [
 ];
 
 /// Lines that look odd and are right, and lines that give no answer.
-pub const ODD: [&str; 72] = [
+pub const ODD: [&str; 85] = [
     "look",
     "write 02",
     "write FF",
@@ -230,6 +254,19 @@ pub const ODD: [&str; 72] = [
     "\t \t\tread\t\t0b \t4\t",
     "read 0c 3\r",
     "look 00000 0000000000000000000000002 0 0 0 0 0 0",
+    "looks",
+    "looks\t \r",
+    " looks",
+    "looks 0",
+    "looks 2000",
+    "looks 0 0 0 0 0 0 0",
+    "looks 2 2 2 2 2 2 2 2 2",
+    "looks 2 2 2 2 2 2 2 2 E000",
+    "looks FFFF 2 2 2 2 2 2 2 2",
+    "looks\t00000 0000000000000000000000002 0 0 0 0 0 0\r",
+    "looks 1fff 0 0 0 0 0 0 0 0 0 0 0 0 0 0 1fFF",
+    "looks 0 0 0 0 0 0 0 ffff",
+    "looks 1 0 0 0 0 0 0 0 3 0 0 0 0 0 0 0 0 0 0 0 0 0 0 2000",
     "pack 0",
     "pack 999999",
     "pack 00000000000000000000000000001 reset",
@@ -279,7 +316,7 @@ pub const ODD: [&str; 72] = [
 ];
 
 /// Lines with bytes that no text has; they all get a `?` answer.
-pub const BYTES: [&[u8]; 15] = [
+pub const BYTES: [&[u8]; 17] = [
     b"\xFF",
     b"\0",
     b"irq\0",
@@ -295,6 +332,8 @@ pub const BYTES: [&[u8]; 15] = [
     b"pack 1 reset\xA0;reset",
     b"unpack F0\r\r",
     b"play F0\0",
+    b"looks\0",
+    b"looks 0 0 0 0 0 0 0 0\r\r",
 ];
 
 /// The places in the three lists. Their lines come in turn, so that a long script has them all.
@@ -329,10 +368,11 @@ fn next<T: Copy>(list: &[T], place: &mut usize) -> T {
 }
 
 /// How a very long line begins, and what fills it.
-const STARTS: [&[u8]; 12] = [
+const STARTS: [&[u8]; 13] = [
     b"irq",
     b"#irq",
     b"look",
+    b"looks",
     b"   ",
     b"held 0 0",
     b"read 10 1",

@@ -2,7 +2,7 @@
 //!
 //! Each key has the list of its samples since the restart, and changes when the last D of them
 //! say so. Held keys, waiting codes and read picture registers are ordinary collections. There
-//! is no unsound state, so number 8 is never given.
+//! is no unsound state, so number 8 is never given. A block (document 02, E2) is its single looks.
 
 use crate::calls::Calls;
 use std::collections::{BTreeSet, VecDeque};
@@ -108,6 +108,21 @@ impl Calls for Module {
             self.take(&self.changes());
         }
         number
+    }
+
+    fn looks(&mut self, list: &[u16]) -> (u8, usize) {
+        if list.len() % 8 != 0 {
+            return (1, 0);
+        }
+        let mut done = 0;
+        for samples in list.chunks(8) {
+            let number = self.look(samples);
+            if number != 0 {
+                return (number, done);
+            }
+            done += 1;
+        }
+        (0, done)
     }
 
     fn write(&mut self, first: u8, bytes: &[u8]) -> u8 {

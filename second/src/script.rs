@@ -2,9 +2,10 @@
 //!
 //! A script is a row of stretches of 50 to 400 lines. Each has a regime: typing, fingers on the
 //! panel, a storm of changes, picture reading, patience under a long bounce, settings that churn,
-//! registers at random, calls that are declined, lists that are carried. The contacts go on from one
-//! stretch to the next.
+//! registers at random, calls that are declined, lists that are carried, blocks of looks. The contacts
+//! go on from one stretch to the next.
 
+mod blocks;
 mod carry;
 mod fingers;
 mod lists;
@@ -49,7 +50,7 @@ const BAD_SIZES: [u8; 10] = [0x1C, 0x2D, 0x92, 0x81, 0x21, 0x12, 0x00, 0xFF, 0x9
 type Regime = (fn(&mut Maker), fn(&mut Maker));
 
 /// The regimes; those that are there twice are taken twice as often.
-const REGIMES: [Regime; 14] = [
+const REGIMES: [Regime; 16] = [
     (Maker::begin_typing, Maker::type_keys),
     (Maker::begin_typing, Maker::type_keys),
     (Maker::begin_fingers, Maker::move_fingers),
@@ -64,6 +65,8 @@ const REGIMES: [Regime; 14] = [
     (Maker::begin_storm, Maker::be_declined),
     (Maker::begin_typing, Maker::carry),
     (Maker::begin_pictures, Maker::carry),
+    (Maker::begin_typing, Maker::take_blocks),
+    (Maker::begin_storm, Maker::take_blocks),
 ];
 
 /// Ways to quit.
@@ -228,11 +231,7 @@ impl Maker {
     fn typed(&mut self, call: &Call) -> Vec<String> {
         match call {
             Call::Reset => vec!["reset".to_string()],
-            Call::Look(samples) => {
-                let mut words = vec!["look".to_string()];
-                words.extend(samples.iter().map(|sample| self.hex(*sample, 4)));
-                words
-            }
+            Call::Look(samples) => self.sampled("look", samples),
             Call::Write(first, bytes) => {
                 let mut words = vec!["write".to_string(), self.hex((*first).into(), 2)];
                 words.extend(bytes.iter().map(|byte| self.hex((*byte).into(), 2)));
@@ -242,6 +241,13 @@ impl Maker {
                 vec!["read".to_string(), self.hex((*first).into(), 2), self.decimal(*count)]
             }
         }
+    }
+
+    /// The words of a command with samples.
+    fn sampled(&mut self, command: &str, samples: &[u16]) -> Vec<String> {
+        let mut words = vec![command.to_string()];
+        words.extend(samples.iter().map(|sample| self.hex(*sample, 4)));
+        words
     }
 
     /// Keeps the size in mind that is in force behind a call.
@@ -339,6 +345,16 @@ impl Maker {
         self.bouncing[row] |= 1 << column;
     }
 
+    /// Presses or releases up to two keys. If more than `most` are down then, all but a few are let go.
+    fn tap(&mut self, most: u32) {
+        for _ in 0..self.chance.below(3) {
+            self.touch();
+        }
+        if self.count_closed() > most {
+            self.let_go();
+        }
+    }
+
     /// Lets all keys go but a few.
     fn let_go(&mut self) {
         for row in 0..8 {
@@ -374,10 +390,13 @@ impl Maker {
         self.say_look(&samples);
     }
 
-    /// A few looks in a row.
+    /// A few looks in a row, now and then in one block.
     fn looks(&mut self, most: usize) {
-        for _ in 0..self.chance.between(1, most) {
-            self.look();
+        let count = self.chance.between(1, most);
+        if self.chance.one_in(12) {
+            self.block(count);
+        } else {
+            (0..count).for_each(|_| self.look());
         }
     }
 }
@@ -461,12 +480,7 @@ impl Maker {
 
     /// A few keys go down and up, and the host keeps up with them.
     fn type_keys(&mut self) {
-        for _ in 0..self.chance.below(3) {
-            self.touch();
-        }
-        if self.count_closed() > 6 {
-            self.let_go();
-        }
+        self.tap(6);
         self.looks(4);
         match self.chance.below(6) {
             0..=1 => self.serve(),
@@ -486,6 +500,19 @@ impl Maker {
 
     /// Many keys change at once, and the host is slow to fetch.
     fn storm(&mut self) {
+        self.flip_many();
+        self.looks(2);
+        match self.chance.below(8) {
+            0..=1 => self.fetch(),
+            2 => self.drain(),
+            3 => self.serve(),
+            4 => self.clear(),
+            _ => self.probe(),
+        }
+    }
+
+    /// Turns the contacts of many keys.
+    fn flip_many(&mut self) {
         let wild = self.chance.one_in(2);
         for row in 0..8 {
             let mut flips = self.chance.bits() & self.chance.bits() & 0x1FFF;
@@ -495,14 +522,6 @@ impl Maker {
             if self.chance.one_in(3) {
                 self.closed[row] ^= flips as u16;
             }
-        }
-        self.looks(2);
-        match self.chance.below(8) {
-            0..=1 => self.fetch(),
-            2 => self.drain(),
-            3 => self.serve(),
-            4 => self.clear(),
-            _ => self.probe(),
         }
     }
 
@@ -547,12 +566,14 @@ impl Maker {
         self.write(0x02, &[bounce as u8, size]);
         self.touch();
         self.bouncing = [0; 8];
-        if self.chance.one_in(2) {
-            let looks = self.chance.pick(&[bounce - 2, bounce - 2, 256, 300]);
-            self.look();
-            self.wait(looks);
-        } else {
-            (1..bounce).for_each(|_| self.look());
+        match self.chance.below(6) {
+            0..=2 => {
+                let looks = self.chance.pick(&[bounce - 2, bounce - 2, 256, 300]);
+                self.look();
+                self.wait(looks);
+            }
+            3 => self.block(bounce - 1),
+            _ => (1..bounce).for_each(|_| self.look()),
         }
         self.read(0x10, 1);
         self.look();
@@ -627,11 +648,12 @@ impl Maker {
             self.touch();
             self.look();
         }
-        match self.chance.below(8) {
+        match self.chance.below(9) {
             0..=1 => self.decline_look(),
             2..=3 => self.decline_read(),
             4..=5 => self.decline_write(),
             6 => self.decline_size(),
+            7 => self.decline_block(),
             _ => self.ask_held(),
         }
         match self.chance.below(5) {
@@ -659,9 +681,14 @@ impl Maker {
             }
         } else {
             let row = self.chance.below(8);
-            list[row] |= self.chance.pick(&[0x2000, 0x4000, 0x8000, 0xE000]);
+            list[row] |= self.high_bits();
         }
         list
+    }
+
+    /// Bits that no sample has.
+    fn high_bits(&mut self) -> u16 {
+        self.chance.pick(&[0x2000, 0x4000, 0x8000, 0xE000])
     }
 
     /// A read that mostly can't be done.

@@ -44,12 +44,16 @@ fn piece(text: &[u8]) -> Result<Call, Wrong> {
 pub fn text(call: &Call) -> String {
     match call {
         Call::Reset => "reset".to_string(),
-        Call::Look(samples) => {
-            samples.iter().fold("look".to_string(), |text, sample| format!("{text} {sample:X}"))
-        }
+        Call::Look(samples) => sampled("look", samples),
         Call::Write(first, bytes) => format!("write {first:02X}{}", spaced(bytes)),
         Call::Read(first, count) => format!("read {first:02X} {count}"),
     }
+}
+
+/// A command with samples behind it, as it is typed.
+pub fn sampled(command: &str, samples: &[u16]) -> String {
+    let words: String = samples.iter().map(|sample| format!(" {sample:X}")).collect();
+    format!("{command}{words}")
 }
 
 /// Bytes with a blank before each.

@@ -67,15 +67,15 @@ fn what_stands_after_quit_is_not_read() {
 fn only_what_leads_to_the_difference_is_kept() {
     // A stand-in that goes wrong at a line `c` after a line `a` and a look with row 2 column 0.
     let mut differs = |script: &[Line]| {
-        let key = |line: &Line| line.starts_with(b"look 0000 0000 0001");
+        let key = |line: &Line| line.starts_with(b"look 0 0 1 ");
         let a = script.iter().position(|line| line == b"a")?;
         let look = a + script[a..].iter().position(key)?;
         Some(look + script[look..].iter().position(|line| line == b"c")?)
     };
     let mut script = lines(&["b", "a", "b", "b", "a"]);
-    script.extend(lines(&["look 0000 0000 0001 0FFF 1FFF 0000 0000 0000"]));
+    script.extend(lines(&["look 0 0 1 0FFF 1FFF 0000 0 0"]));
     script.extend(lines(&["b", "b", "c", "b", "c", "a"]));
-    let expected = ["a", "look 0000 0000 0001 0000 0000 0000 0000 0000", "c"];
+    let expected = ["a", "look 0 0 1 0 0 0 0 0", "c"];
     assert_eq!(cut_down(&script, &mut differs), lines(&expected));
 }
 
@@ -102,4 +102,51 @@ fn only_the_calls_that_lead_to_the_difference_are_kept() {
     ] {
         assert_eq!(cut_down(&lines(&["irq", line, "irq"]), &mut differs), lines(&[short]));
     }
+}
+
+/// The samples of a block, or none of any other line.
+fn block(line: &Line) -> Vec<u16> {
+    let text = String::from_utf8_lossy(line);
+    let words = text.strip_prefix("looks").unwrap_or_default().split_whitespace();
+    words.map(|word| u16::from_str_radix(word, 16).unwrap()).collect()
+}
+
+#[test]
+fn only_the_looks_that_lead_to_the_difference_are_kept() {
+    // A stand-in that goes wrong at a block with row 2 column 0 in a look and row 0 column 1 later.
+    let mut differs = |script: &[Line]| {
+        script.iter().map(block).position(|block| {
+            let mut looks = block.chunks(8);
+            let first = looks.any(|look| look.get(2).map_or(false, |sample| sample & 1 == 1));
+            first && looks.any(|look| look[0] & 2 == 2)
+        })
+    };
+    let quiet = " 0000 0 0 0 0 0 0 0";
+    let (first, then) = (" 1 2 0003 1fff 0 0 0 1000", " 7 0 1 0 0 0 0 FFFF");
+    let short = "looks 0 0 1 0 0 0 0 0 2 0 0 0 0 0 0 0";
+    for line in [
+        format!("looks{first}{then}"),
+        format!("looks {quiet}{first}{quiet}\t{then}{quiet} \r"),
+        format!("looks{}{first}{}{then}{first}", quiet.repeat(100), quiet.repeat(300)),
+    ] {
+        let cut = cut_down(&lines(&["irq", "looks 3 3", &line, "irq"]), &mut differs);
+        assert_eq!(cut, lines(&[short]), "{line}");
+    }
+    // A part of a look at the end goes by itself, and stays where it is needed.
+    let line = format!("looks{first}{then} 1FF0 3");
+    assert_eq!(cut_down(&lines(&[&line]), &mut differs), lines(&[short]));
+    let mut uneven = |script: &[Line]| script.iter().position(|line| block(line).len() % 8 != 0);
+    assert_eq!(cut_down(&lines(&[&line]), &mut uneven), lines(&["looks 0 0"]));
+}
+
+#[test]
+fn of_a_very_long_block_some_looks_are_left() {
+    // A stand-in that goes wrong at a block of more than 256 looks.
+    let mut differs = |script: &[Line]| script.iter().position(|line| block(line).len() > 8 * 256);
+    let line = format!("looks{}", " 0 0 0 0 0 0 0 1".repeat(1023));
+    let cut = cut_down(&lines(&["looks 0", &line]), &mut differs);
+    assert_eq!(cut.len(), 1);
+    let samples = block(&cut[0]);
+    assert!(samples.len() < 8 * 270, "{} samples", samples.len());
+    assert!(samples.iter().all(|sample| *sample == 0));
 }

@@ -57,12 +57,12 @@ fn compare_finds_itself_the_same() {
 fn compare_shows_a_difference_cut_down() {
     // A program that gives KBDBOUNCE 1 as 0 if KBDSIZE 8C is read with it.
     let wrong = "\"$0\" | sed 's/^0 01 8C$/0 00 8C/'";
-    let words = ["compare", "7", "5000", "bash", "-o", "pipefail", "-c", wrong, SECOND];
+    let words = ["compare", "9", "5000", "bash", "-o", "pipefail", "-c", wrong, SECOND];
     let output = run(&words);
     assert_eq!(output.status.code(), Some(1));
     let text = text(&output);
     let (before, short) = text.split_once("cut down to 3 lines:\n").unwrap();
-    assert!(before.starts_with("different: seed 7, line "));
+    assert!(before.starts_with("different: seed 9, line "));
     let lines: Vec<&str> = short.lines().collect();
     assert_eq!(lines.len(), 6);
     assert!(lines[0].contains("write"));
@@ -245,6 +245,9 @@ fn speak_with(words: &[&str], input: &str) -> (String, Option<i32>) {
     (text(&output), output.status.code())
 }
 
+/// The list of a reset and a look of nothing: 108 bits.
+const LOOK: [u8; 14] = [0xC0, 0, 0, 0, 0, 0, 0, 0, 0, 0, 0, 0, 0, 0];
+
 #[test]
 fn a_session_is_recorded() {
     let file = path("recorded");
@@ -256,6 +259,9 @@ fn a_session_is_recorded() {
         ("read 00 1\nquit\nreset\n", "5\n", 0, &[0x80, 0x00]),
         ("write 84 01", "0\n", 0, &[0x61, 0x00, 0x02]),
         ("play FF\nplay 00\n", "0\n20\n", 0, &[0xFF, 0xC0]),
+        // The look that is done, and neither the one that is declined nor the one behind it.
+        ("reset\nlooks 0 0 0 0 0 0 0 0 2000 0 0 0 0 0 0 0 0 0 0 0 0 0 0 0\n", "0\n2 1\n", 0, &LOOK),
+        ("looks\nlooks 0 0 0 0 0 0 0 0 0\nreset\n", "0 0\n1 0\n0\n", 0, &[0xC0]),
     ] {
         let (said, code) = speak_with(&["--record", &file], input);
         assert_eq!((said.as_str(), code), (answers, Some(status)), "{input}");

@@ -11,11 +11,16 @@ fn answers(script: &[Line]) -> Vec<String> {
     script.iter().filter_map(|line| console.answer(line)).collect()
 }
 
-/// The answers to the lines of a script that are exactly this command.
-fn answers_to(script: &[Line], command: &str) -> Vec<String> {
+/// The answers to those lines of a script.
+fn answers_where(script: &[Line], those: impl Fn(&Line) -> bool) -> Vec<String> {
     let mut console = Console::new();
     let with_lines = script.iter().map(|line| (line, console.answer(line)));
-    with_lines.filter(|(line, _)| *line == command.as_bytes()).filter_map(|pair| pair.1).collect()
+    with_lines.filter(|(line, _)| those(line)).filter_map(|pair| pair.1).collect()
+}
+
+/// The answers to the lines of a script that are exactly this command.
+fn answers_to(script: &[Line], command: &str) -> Vec<String> {
+    answers_where(script, |line| line == command.as_bytes())
 }
 
 #[test]
@@ -152,13 +157,14 @@ fn numbers(script: &[Line]) -> HashMap<(String, String), usize> {
 }
 
 #[test]
-fn lists_are_carried_in_every_script() {
+fn lists_and_blocks_are_in_every_script() {
     for seed in 1..4 {
         let given = numbers(&script(seed, 60_000));
         for (word, answers) in [
             ("pack", &["0", "1", "2", "3", "4", "21", "?"][..]),
             ("unpack", &["0", "20", "?"]),
             ("play", &["0", "20", "?"]),
+            ("looks", &["0", "1", "2", "?"]),
         ] {
             for number in answers {
                 let times = given.get(&(word.to_string(), number.to_string()));
@@ -169,6 +175,22 @@ fn lists_are_carried_in_every_script() {
             }
             let others = given.keys().filter(|(first, _)| first == word).count();
             assert_eq!(others, answers.len(), "{word} with seed {seed}");
+        }
+    }
+}
+
+#[test]
+fn blocks_are_done_and_stopped_at_every_place() {
+    for seed in 1..4 {
+        let seen = answers_where(&script(seed, 60_000), |line| line.starts_with(b"looks"));
+        let times = |answer: &str| seen.iter().filter(|seen| *seen == answer).count();
+        for done in 0..8 {
+            assert!(times(&format!("0 {done}")) > 20, "0 {done} with seed {seed}");
+            assert!(times(&format!("2 {done}")) > 3, "2 {done} with seed {seed}");
+        }
+        for number in ["0 ", "2 "] {
+            let hundreds = seen.iter().filter_map(|seen| seen.strip_prefix(number)?.parse().ok());
+            assert!(hundreds.filter(|done: &usize| *done > 255).count() > 2, "{number}, {seed}");
         }
     }
 }

@@ -75,6 +75,7 @@ int main(void)
     accesses();
     declined();
     states();
+    blocks();
     bools();
     routine();
     carry();

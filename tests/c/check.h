@@ -44,6 +44,7 @@ void sessions(void);
 void accesses(void);
 void declined(void);
 void states(void);
+void blocks(void);
 void bools(void);
 void routine(void);
 void carry(void);

@@ -1,4 +1,4 @@
-/* A number that nobody looks at: with IGNORED defined, each of the nine calls below is warned of. Reset is always done, and nobody needs to look. */
+/* A number that nobody looks at: with IGNORED defined, each of the ten calls below is warned of. Reset is always done, and nobody needs to look. */
 #include "panel.h"
 
 #ifdef IGNORED
@@ -14,8 +14,10 @@ unsigned ignored_lists(struct panel *panel, struct panel_call *call, struct pane
 unsigned ignored(struct panel *panel, const uint16_t *samples, uint8_t *byte, bool *yes)
 {
     unsigned all = 0;
+    uint64_t done;
     panel_reset(panel);
     LOOKED(panel_look(panel, samples, PANEL_ROWS));
+    LOOKED(panel_looks(panel, samples, PANEL_ROWS, &done));
     LOOKED(panel_write(panel, PANEL_KBDBOUNCE, byte, 1));
     LOOKED(panel_read(panel, PANEL_EVTCODE, byte, 1));
     LOOKED(panel_held(panel, panel_row(0), panel_col(0), yes));

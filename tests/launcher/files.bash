@@ -14,6 +14,7 @@ size() { [ "$(wc -c <"$1")" -eq "$2" ] || failed "$1 has other than $2 bytes"; }
 # session: lines of every kind of call, done and declined, of fingers, of packed lists, and some that make no call.
 session() {
     printf '%s\n' 'write 02 02' 'look 0 2 0 0 0 0 0 0' 'press 0 1' 'look 0' 'look 0 0 0 0 0 0 0 2000' 'read 10 2' 'read 0F 1' 'read 10 33' 'read 10 0' 'write 03 99'
+    printf '%s\n' 'looks 0 2 0 0 0 0 0 0 3 0 0 0 0 0 0 0' 'looks 1 2 0 0 0 0 0 0 1 2 0 0 0 0 0 2000 0 0 0 0 0 0 0 0' 'wait 1' 'looks 0 0 0' 'looks'
     printf '%s\n' 'held 0 1' 'irq' 'show' 'pack 9 reset' 'unpack F0' 'play 00' 'wait 3' 'release 0 1' 'rest' 'press 1 SF'
 }
 
@@ -26,6 +27,33 @@ see_recorded() {
     session | "$second" --record "$work/second" >/dev/null
     cmp -s "$work/session" "$work/second" || failed "a recording is other than the second module's"
     seen "a session recorded and played goes on as if it had not ended"
+}
+
+# block NAME BETWEEN: the longest block that a line holds, 1,023 looks, each sample one digit; the name comes first, and the words between its looks.
+block() {
+    awk -v name="$1" -v between="$2" 'BEGIN {
+        for (i = 0; i < 8184; i++) printf "%s %x", i % 8 ? "" : i ? between : name, (7 * i + int(i / 8)) % 16
+        print ""
+    }'
+}
+
+# The longest block is recorded as its looks one by one are, and leads to the same panel. No length is taken for another.
+see_block() {
+    { echo 'write 02 01 8C' && block looks ''; } >"$work/block.txt"
+    { echo 'write 02 01 8C' && block look $'\nlook'; } >"$work/looks.txt"
+    gives 0 ./panel --record "$work/block" <"$work/block.txt"
+    says out '0 1023'
+    gives 0 ./panel --record "$work/looks" <"$work/looks.txt"
+    cmp -s "$work/block" "$work/looks" || failed "a block is recorded otherwise than its looks"
+    "$second" --record "$work/second" <"$work/block.txt" >/dev/null
+    cmp -s "$work/block" "$work/second" || failed "a block's recording is other than the second module's"
+    { cat "$work/block.txt" && ask; } | ./panel | tail -n +3 >"$work/at_once"
+    { cat "$work/looks.txt" && ask; } | ./panel | tail -n +1025 >"$work/one_by_one"
+    cmp -s "$work/at_once" "$work/one_by_one" || failed "a block leads to another panel than its looks"
+    block looks '' | sed -n 'h; s/^\(.\{533\}\).*/\1/p; g; s/..$//p; g; s/$/ 0 0 0 0 0/p; g; s/.$/2000/p' >"$work/block.txt"
+    gives 0 ./panel <"$work/block.txt"
+    printf '%s\n' '0 33' '1 0' '1 0' '2 1022' | cmp -s - "$work/out" || failed "blocks of 264, 8183 and 8189 samples, and one whose last sample is bad"
+    seen "1,023 looks in a block are made and recorded as they are one by one"
 }
 
 # Both: the file that is played is recorded first, behind a reset; its own name may be that of the new one.
@@ -133,6 +161,7 @@ see_files_typed() {
 }
 
 see_recorded
+see_block
 see_both
 see_declined
 see_long_files

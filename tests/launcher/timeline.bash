@@ -24,9 +24,11 @@ see_settling() {
 
 # Lines may end as on other systems.
 see_returns() {
-    sed 's/$/\r/' tests/timeline/resize.txt >"$work/returns"
-    gives 0 ./panel --timeline "$work/returns"
-    cmp -s "$work/out" tests/timeline/resize.picture || failed "a script with carriage returns is drawn otherwise"
+    for name in resize block; do
+        sed 's/$/\r/' "tests/timeline/$name.txt" >"$work/returns"
+        gives 0 ./panel --timeline "$work/returns"
+        cmp -s "$work/out" "tests/timeline/$name.picture" || failed "$name.txt with carriage returns is drawn otherwise"
+    done
 }
 
 # A line that the console can't read: it is told of, and the rest is drawn.

@@ -11,6 +11,7 @@ pub fn commands(p: Page) -> Page
         p,
         b"reset              the panel after reset; the contacts stay as they are\n\
         look S0 S1 ..      one look: a 16-bit sample for each row; bit c is column c, bit 12 the SF key\n\
+        looks S0 S1 ..     a block of looks, eight samples each, up to the first declined; tells how many were done\n\
         press ROW COL      a finger closes this contact, for as many looks as make the panel believe it\n\
         release ROW COL    the finger opens it, for as many looks\n\
         wait N             N looks with the contacts as they are\n\
@@ -38,8 +39,8 @@ pub fn numbers(p: Page) -> Page
         p,
         b"A call answers with a number: 0 if it was done. Any other declines it, and nothing is altered.\n\
         0  done\n\
-        1  look: the list isn't eight samples\n\
-        2  look: some sample has bit 13, 14 or 15 set\n\
+        1  look: the list isn't eight samples, or a block's not a multiple of eight\n\
+        2  look: some sample has bit 13, 14 or 15 set; a block's looks before it stay done\n\
         3  access: no bytes\n\
         4  access: more than 32 bytes\n\
         5  access: some address of the run is unknown, or can't be read or written as asked\n\

@@ -1,10 +1,19 @@
-// The six calls, by value: the module is passed and handed back.
+// The six calls, and looks handed over in blocks, by value: the module is passed and handed back.
 use keys::Col;
+use keys::KEYS;
 use keys::Row;
 use state::Module;
+use state::PLACES;
+ghost use Prim.Native.Nat.{_/_};
 ghost use mathlib.Core.Path.{_≡_};
+ghost use mathlib.Core.Bool.{true, false};
 ghost use lib.ListN.{length};
+ghost use Rattle.state.specs.Module.{queue};
+ghost use Rattle.sound.specs.Sound.{sound};
+ghost use Rattle.scan.specs.Walk.{altered, whole};
 ghost use Rattle.calls.specs.Calls.{resetCall, lookCall, writeCall, readCall, readBuffer, heldCall, interruptCall};
+ghost use Rattle.calls.specs.Blocks.{singles, looksCall};
+ghost use Rattle.calls.specs.Walk.{Judged, MadeOn};
 
 // What reset, look, write and read hand back; after a declined call the module is as it was given.
 #[repr(C)]
@@ -19,6 +28,22 @@ pub struct Answered {
     pub number: u8,
     pub yes: bool,
 }
+
+// What a block of looks hands back: how many looks were done, and the module that they left.
+pub struct Block {
+    pub after: Module,
+    pub done: usize,
+    pub number: u8,
+}
+
+// How many looks of a block were done, and the number of the one that was declined, or 0.
+struct Made {
+    done: usize,
+    number: u8,
+}
+
+// The samples of a look.
+const SAMPLES: usize = 8;
 
 // Reset: the state after reset, whatever was before.
 pub fn reset() -> Done
@@ -51,6 +76,124 @@ pub fn look(m: Module, samples: &[u16]) -> Done
         after: scan::looked(m, samples),
         number: numbers::DONE,
     }
+}
+
+// The single looks of a block, up to the first that is declined, on the parts of a sound module. Each leaves it sound.
+fn look_by_look(
+    held: &mut [bool; KEYS],
+    run: &mut [u8; KEYS],
+    places: &mut [u8; PLACES],
+    count: &mut u8,
+    relint: &mut bool,
+    rsint: &mut bool,
+    rklint: &mut bool,
+    seen: &mut [bool; 4],
+    samples: &[u16],
+    size: u8,
+    bounce: u8,
+) -> Made
+    requires { ⌜ Judged (whole bounce size
+        (altered (now held) (now run) (queue (now places) (now count) (now relint)) (now rsint) (now rklint) (now seen)) 0 false) ⌝ }
+    ensures { λ r. ⌜ MadeOn bounce size (now (samples .entry))
+        (altered (now (held .entry)) (now (run .entry)) (queue (now (places .entry)) (now (count .entry)) (now (relint .entry)))
+        (now (rsint .entry)) (now (rklint .entry)) (now (seen .entry)))
+        (altered (now (held .exit)) (now (run .exit)) (queue (now (places .exit)) (now (count .exit)) (now (relint .exit)))
+        (now (rsint .exit)) (now (rklint .exit)) (now (seen .exit))) r ⌝ }
+{
+    let looks = samples.len() / SAMPLES;
+    let mut done: usize = 0;
+    while done < looks {
+        let from = SAMPLES * done;
+        let to = from + SAMPLES;
+        let number = judge::of_samples(&samples[from..to]);
+        if number != numbers::DONE {
+            return Made {
+                done: done,
+                number: number,
+            };
+        }
+        scan::look_on(
+            held,
+            run,
+            places,
+            count,
+            relint,
+            rsint,
+            rklint,
+            seen,
+            &samples[from..to],
+            size,
+            bounce,
+        );
+        done = done + 1;
+    }
+    Made {
+        done: done,
+        number: numbers::DONE,
+    }
+}
+
+// The single looks of a block, of a sound module.
+fn looks_of_sound(m: Module, samples: &[u16]) -> Block
+    requires { ⌜ sound m ≡ true ⌝ }
+    ensures { λ r. ⌜ r ≡ singles (length (now (samples .entry)) / 8) m (now (samples .entry)) ⌝ }
+{
+    let mut held = m.held;
+    let mut run = m.run;
+    let mut places = m.queue;
+    let mut count = m.count;
+    let mut relint = m.relint;
+    let mut rsint = m.rsint;
+    let mut rklint = m.rklint;
+    let mut seen = m.seen;
+    let made = look_by_look(
+        &mut held,
+        &mut run,
+        &mut places,
+        &mut count,
+        &mut relint,
+        &mut rsint,
+        &mut rklint,
+        &mut seen,
+        samples,
+        m.size,
+        m.bounce,
+    );
+    let mut after = m;
+    after.held = held;
+    after.run = run;
+    after.queue = places;
+    after.count = count;
+    after.relint = relint;
+    after.rsint = rsint;
+    after.rklint = rklint;
+    after.seen = seen;
+    Block {
+        after: after,
+        done: made.done,
+        number: made.number,
+    }
+}
+
+// Several looks, eight samples each: what single looks give, in order, up to the first that is declined.
+pub fn looks(m: Module, samples: &[u16]) -> Block
+    ensures { λ r. ⌜ r ≡ looksCall m (now (samples .entry)) ⌝ }
+{
+    if !sound::is_sound(m) {
+        return Block {
+            after: m,
+            done: 0,
+            number: numbers::UNSOUND,
+        };
+    }
+    if samples.len() % SAMPLES != 0 {
+        return Block {
+            after: m,
+            done: 0,
+            number: numbers::NOT_EIGHT,
+        };
+    }
+    looks_of_sound(m, samples)
 }
 
 // A write access: bytes to the registers from a first address on.

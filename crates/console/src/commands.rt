@@ -143,8 +143,8 @@ pub(crate) fn is_empty(line: &[u8]) -> bool {
     is_end(line, 0)
 }
 
-// The numbers of all words, of one kind, go to the list.
-pub(crate) fn list_of(line: &[u8], kind: Kind, numbers: &mut [u32]) -> Listed
+// The numbers of all words, samples or bytes, go to the list.
+pub(crate) fn list_of(line: &[u8], kind: Kind, numbers: &mut [u16]) -> Listed
     ensures { λ r. ⌜ r .count ≤ length (now (numbers .exit)) ⌝ }
 {
     let mut at: usize = 0;
@@ -162,7 +162,7 @@ pub(crate) fn list_of(line: &[u8], kind: Kind, numbers: &mut [u32]) -> Listed
         let number = told.number;
         match number {
             Number::Value(value) => {
-                numbers[count] = value;
+                numbers[count] = (value % 65536) as u16;
                 count = count + 1;
                 at = end;
             }

@@ -1,4 +1,5 @@
 // The panel's console: a command a line in, an answer a line out.
+mod block;
 mod carried;
 mod commands;
 mod fingers;
@@ -29,7 +30,7 @@ struct Received {
 fn feed(s: Session, input: &[u8]) -> Session
     ensures { λ r. ⌜ r .held ≤ length (now (input .entry)) ⌝ }
 {
-    let mut list = [0u32; 8192];
+    let mut list = [0u16; 8192];
     let mut next = s;
     let mut i: usize = 0;
     let mut end = newline_from(input, i);

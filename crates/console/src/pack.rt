@@ -112,7 +112,7 @@ fn with_typed(g: Gathered, typed: Typed, rest: &[u8], calls: &mut [u16]) -> Gath
 }
 
 // One part of the line more. No call has a shorter name than four letters.
-fn with_part(g: Gathered, part: &[u8], list: &mut [u32], calls: &mut [u16]) -> Gathered
+fn with_part(g: Gathered, part: &[u8], list: &mut [u16], calls: &mut [u16]) -> Gathered
     requires { ⌜ (g .count * 5 + length (now part) ≤ 16384) × (114695 ≡ length (now calls)) ⌝ }
     ensures { λ r. ⌜ r .count * 5 ≤ g .count * 5 + length (now (part .entry)) + 1 ⌝ }
 {
@@ -132,7 +132,7 @@ fn with_part(g: Gathered, part: &[u8], list: &mut [u32], calls: &mut [u16]) -> G
 }
 
 // The calls of a line from a place on, up to the first that is wrong.
-fn gather(page: Page, line: &[u8], from: usize, list: &mut [u32], calls: &mut [u16]) -> Gathered
+fn gather(page: Page, line: &[u8], from: usize, list: &mut [u16], calls: &mut [u16]) -> Gathered
     requires { ⌜ (from ≤ length (now line)) × (length (now line) ≤ 16384) × (114695 ≡ length (now calls)) ⌝ }
     ensures { λ r. ⌜ r .count ≤ 3277 ⌝ }
 {
@@ -177,7 +177,7 @@ fn space() -> [u16; 114695]
 }
 
 // The calls behind a place, for a buffer of so many bytes.
-fn pack_from(s: Session, line: &[u8], from: usize, room: usize, list: &mut [u32]) -> Session
+fn pack_from(s: Session, line: &[u8], from: usize, room: usize, list: &mut [u16]) -> Session
     requires { ⌜ (from ≤ length (now line)) × (length (now line) ≤ 16384) ⌝ }
 {
     let mut calls = space();
@@ -193,7 +193,7 @@ fn pack_from(s: Session, line: &[u8], from: usize, room: usize, list: &mut [u32]
 }
 
 // `pack ROOM CALL ; CALL ..`
-pub(crate) fn pack(s: Session, rest: &[u8], list: &mut [u32]) -> Session
+pub(crate) fn pack(s: Session, rest: &[u8], list: &mut [u16]) -> Session
     requires { ⌜ length (now rest) ≤ 16384 ⌝ }
 {
     let told = number_at(rest, 0, Kind::Room);

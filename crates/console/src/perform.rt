@@ -1,4 +1,5 @@
 // The commands, done and answered.
+use crate::block;
 use crate::carried;
 use crate::commands;
 use crate::commands::Heard;
@@ -109,7 +110,7 @@ fn made(s: Session, call: Call) -> Session {
 }
 
 // `look S0 S1 ..`, `write AA B0 B1 ..`, `read AA COUNT`, `reset`
-fn called(s: Session, kind: u16, rest: &[u8], list: &mut [u32]) -> Session {
+fn called(s: Session, kind: u16, rest: &[u8], list: &mut [u16]) -> Session {
     let typed = call_of(kind, rest, list);
     let call = typed.call;
     let heard = typed.heard;
@@ -224,7 +225,7 @@ fn of_fingers(s: Session, word: &[u8], rest: &[u8]) -> Session {
 }
 
 // The commands of packed lists.
-fn of_lists(s: Session, word: &[u8], rest: &[u8], list: &mut [u32]) -> Session
+fn of_lists(s: Session, word: &[u8], rest: &[u8], list: &mut [u16]) -> Session
     requires { ⌜ length (now rest) ≤ 16384 ⌝ }
 {
     if is_same(word, b"pack") {
@@ -241,18 +242,21 @@ fn of_lists(s: Session, word: &[u8], rest: &[u8], list: &mut [u32]) -> Session
 
 // Does the command that a word names, with the words behind it, and answers it.
 // Each group of commands has a function, since the check of many arms in one grows with their square.
-fn named(s: Session, word: &[u8], rest: &[u8], list: &mut [u32]) -> Session
+fn named(s: Session, word: &[u8], rest: &[u8], list: &mut [u16]) -> Session
     requires { ⌜ length (now rest) ≤ 16384 ⌝ }
 {
     let kind = kind_of(word);
     if kind != NONE {
         return called(s, kind, rest, list);
     }
+    if is_same(word, b"looks") {
+        return block::looks(s, rest, list);
+    }
     of_lists(s, word, rest, list)
 }
 
 // Does the command of a line that is not too long. A blank line and a comment ask for nothing.
-fn asked(s: Session, line: &[u8], list: &mut [u32]) -> Session
+fn asked(s: Session, line: &[u8], list: &mut [u16]) -> Session
     requires { ⌜ length (now line) ≤ 16384 ⌝ }
 {
     let w = word_from(line, 0);
@@ -269,7 +273,7 @@ fn asked(s: Session, line: &[u8], list: &mut [u32]) -> Session
 }
 
 // Does what a line asks for and answers it; its numbers go to the list.
-pub(crate) fn perform(s: Session, line: &[u8], list: &mut [u32]) -> Session {
+pub(crate) fn perform(s: Session, line: &[u8], list: &mut [u16]) -> Session {
     if LONGEST < line.len() {
         return on_page(s, too_long(s.page));
     }

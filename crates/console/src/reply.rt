@@ -4,9 +4,11 @@ use answers::out;
 use answers::refusal::Wrong;
 use answers::refusal::refusal;
 use calls::Answered;
+use calls::Block;
 use calls::Done;
 use state::Module;
 use text::page::Page;
+use text::page::least;
 
 // The session with a page.
 pub(crate) fn on_page(s: Session, page: Page) -> Session {
@@ -32,6 +34,13 @@ fn with(s: Session, panel: Module, page: Page) -> Session {
 pub(crate) fn told(s: Session, done: Done) -> Session {
     let page = out::decimal(s.page, done.number as u32);
     with(s, done.after, out::end(page))
+}
+
+// A block's number, and how many of its looks were done.
+pub(crate) fn counted(s: Session, block: Block) -> Session {
+    let page = out::put(out::decimal(s.page, block.number as u32), b' ');
+    let done = least(block.done, 65535) as u32;
+    with(s, block.after, out::end(out::decimal(page, done)))
 }
 
 // A question's number, yes or no.

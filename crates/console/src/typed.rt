@@ -7,11 +7,12 @@ use answers::refusal::Kind;
 use answers::refusal::Wrong;
 use answers::refusal::refusal_of_call;
 use carry::call::Call;
-use text::list::as_samples;
+use text::list::copied;
 use text::page::Page;
 use text::page::least;
 use text::word::is_same;
-ghost use Prim.Native.Nat.{_≤_};
+ghost use Prim.Native.Nat.{_≤_, _+_};
+ghost use lib.ListN.{length};
 
 // The kinds of calls, as in a list of calls.
 pub(crate) const LOOK: u16 = 0;
@@ -58,18 +59,25 @@ pub(crate) fn plain(kind: u16, first: u32, count: u32) -> Call {
     }
 }
 
+// The eight samples of a look that begin at a place.
+pub(crate) fn eight_at(samples: &[u16], at: usize) -> [u16; 8]
+    requires { ⌜ at + 8 ≤ length (now samples) ⌝ }
+{
+    [
+        samples[at],
+        samples[at + 1],
+        samples[at + 2],
+        samples[at + 3],
+        samples[at + 4],
+        samples[at + 5],
+        samples[at + 6],
+        samples[at + 7],
+    ]
+}
+
 // The first eight of a call's values.
 pub(crate) fn eight_of(values: [u16; 32]) -> [u16; 8] {
-    [
-        values[0],
-        values[1],
-        values[2],
-        values[3],
-        values[4],
-        values[5],
-        values[6],
-        values[7],
-    ]
+    eight_at(&values, 0)
 }
 
 // A look at samples.
@@ -103,19 +111,19 @@ pub(crate) fn unwell(kind: u16, wrong: Wrong) -> Typed {
 }
 
 // A call of a kind with the numbers of a list.
-fn with_list(kind: u16, first: u32, list: &[u32]) -> Typed {
+fn with_list(kind: u16, first: u16, list: &[u16]) -> Typed {
     let mut values = [0u16; 32];
-    as_samples(list, &mut values);
+    copied(list, &mut values);
     well(Call {
         kind: kind,
-        first: (first % 256) as u16,
+        first: first,
         count: least(list.len(), 65535) as u16,
         values: values,
     })
 }
 
 // What stands behind `look`.
-fn look(rest: &[u8], list: &mut [u32]) -> Typed {
+fn look(rest: &[u8], list: &mut [u16]) -> Typed {
     let listed = list_of(rest, Kind::Sample, list);
     let count = listed.count;
     let heard = listed.heard;
@@ -126,7 +134,7 @@ fn look(rest: &[u8], list: &mut [u32]) -> Typed {
 }
 
 // A write of the bytes of a list, to the address in front of them.
-fn write_list(list: &[u32]) -> Typed {
+fn write_list(list: &[u16]) -> Typed {
     let n = list.len();
     if n < 1 {
         return unwell(WRITE, commands::too_few());
@@ -135,7 +143,7 @@ fn write_list(list: &[u32]) -> Typed {
 }
 
 // What stands behind `write`.
-fn write(rest: &[u8], list: &mut [u32]) -> Typed {
+fn write(rest: &[u8], list: &mut [u16]) -> Typed {
     let listed = list_of(rest, Kind::Byte, list);
     let count = listed.count;
     let heard = listed.heard;
@@ -163,7 +171,7 @@ fn reset(rest: &[u8]) -> Typed {
 }
 
 // A call of a kind, with the words behind its name; its numbers go to the list.
-pub(crate) fn call_of(kind: u16, rest: &[u8], list: &mut [u32]) -> Typed {
+pub(crate) fn call_of(kind: u16, rest: &[u8], list: &mut [u16]) -> Typed {
     if kind == LOOK {
         return look(rest, list);
     }

@@ -2,6 +2,7 @@
 --
 --    Determined n ps r Post     so it is of the post-condition Post, of a call with n lifetimes, parameters ps and the result r
 --    reset-determined, look-determined, write-determined, read-determined, held-determined, interrupt-determined
+--    looks-determined
 --    pack-determined, add-determined, check-determined, record-determined, play-determined
 --
 -- Each Post is what the toolchain makes of the `ensures` lines in crates/calls/src/ and crates/carry/src/: no definition of ours stands between.
@@ -16,6 +17,8 @@ use Rattle.calls.proofs.reset.Kinds as reset-kinds
 use Rattle.calls.proofs.reset.Reads as reset
 use Rattle.calls.proofs.look.Kinds as look-kinds
 use Rattle.calls.proofs.look.Reads as look
+use Rattle.calls.proofs.looks.Kinds as looks-kinds
+use Rattle.calls.proofs.looks.Reads as looks
 use Rattle.calls.proofs.write.Kinds as write-kinds
 use Rattle.calls.proofs.write.Reads as write
 use Rattle.calls.proofs.read.Kinds as read-kinds
@@ -63,6 +66,10 @@ held-determined κs a x y v w p q = (p ∙ sym q, refl)
 
 pub interrupt-determined : Determined 0 interrupt-kinds.ps interrupt-kinds.r interrupt.Post
 interrupt-determined κs a x y v w p q = (p ∙ sym q, refl)
+
+-- blocks of looks: number, how many were done, and next state
+pub looks-determined : Determined 1 looks-kinds.ps looks-kinds.r looks.Post
+looks-determined κs a x y v w p q = (p ∙ sym q, refl)
 
 -- packed lists: the buffer, each byte of it, is all that is lent to be altered
 pub pack-determined : Determined 2 pack-kinds.ps pack-kinds.r packs.Post

@@ -5,6 +5,7 @@
 --    BytesWrong a found wanted     the bytes of a done read at a                   no-bytes
 --    ProgressWrong found wanted    the codes fetched, once EVTCODE gives 7F        no-progress
 --    LossWrong                     RELINT, once a change was lost                  no-report
+--    differ                        two lists of numbers that differ are not the same
 --
 -- Each is of a machine M and calls cs, newest first, whose bytes fit if the demand asks that. The law beside it: then M does not meet the demand.
 -- Assumes nothing.
@@ -28,7 +29,7 @@ unfolding same
 same-refl [] = refl
 same-refl (x ∷ l) = and-both (eqb x x) (same l l) (eq-eqb x x refl) (same-refl l)
 
-differ : (k l : List ℕ) → same k l ≡ false → k ≡ l → ⊥
+pub differ : (k l : List ℕ) → same k l ≡ false → k ≡ l → ⊥
 differ k l e f = true-false (sym (same-refl k) ∙ ap (same k) f ∙ e)
 
 opposite-not : (b : Bool) → b ≡ not b → ⊥

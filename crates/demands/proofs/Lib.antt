@@ -8,10 +8,13 @@ pub mod Sound
 pub mod Reached
 pub mod Observed
 pub mod Numbers
+pub mod Blocks
 pub mod Rows
 pub mod Meets
+pub mod MeetsBlocks
 pub mod Failing
 pub mod Refuted
+pub mod RefutedBlocks
 pub mod Sessions
 pub mod Determined
 pub mod Source

@@ -2,19 +2,24 @@
 use mathlib.Core.Bool.{Bool, true}
 use Rattle.sheet.proofs.Opened as sheet
 use Rattle.calls.proofs.Opened as calls
+use Rattle.demands.specs.Blocks.{singles, blockRules, Leads, numberOf, Unaltered, Stopped, lookeds, fit, afterActs, pastOf, looksOf, spelled}
+use Rattle.demands.specs.Blocks as blocks
 use Rattle.demands.specs.Demands.{bytesOf}
 use Rattle.demands.specs.Machine.{lent, after, wrotes, gots, happened, done, fits, codesIn, covers, fetchedBy, fetched, seen}
-use Rattle.demands.specs.Ours.{changing, asking, called}
+use Rattle.demands.specs.Ours.{changing, asking, called, blocking}
 use Rattle.demands.specs.Sessions.{same, agrees, passes, sessions}
 use Rattle.demands.specs.Shown as shown
 use Rattle.demands.specs.Table.{First, place, rules}
 use Rattle.demands.specs.Wrong.{calledBy, carried, declined, blankBytes, stays, nothing, ignoring, handled, madeUp, runsKept, roomFor, keysKept, quiet, hushing, hushed, pastState, pastBytes, takenFirst, hurried, putLate, putAllLate, oldestLost, onlyFirst, emptied, trusted, single, singleStays, singleBlank, unreported}
+use Rattle.demands.specs.WrongBlocks.{restored, onward, allMade, allOrNone, overCounted, madeFirst, newest, hushedUp}
 
 unfoldable pub opened : Bool
 unfolding sheet.opened calls.opened
     bytesOf
+    singles blockRules Leads numberOf Unaltered Stopped lookeds fit afterActs pastOf blocks.fetched looksOf spelled
     lent after wrotes gots happened done fits codesIn covers fetchedBy fetched seen
-    changing asking called
+    changing asking called blocking
+    restored onward allMade allOrNone overCounted madeFirst newest hushedUp
     same agrees passes sessions
     shown.after shown.run shown.places shown.shown shown.fitting
     First place rules

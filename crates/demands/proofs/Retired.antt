@@ -17,13 +17,12 @@ use Rattle.words.proofs.Laws.{true-false, all-below, below-all}
 use Rattle.words.proofs.Places.{fails-at}
 use Rattle.numbers.specs.Numbers.{Line, _gives_, numberOf}
 use Rattle.keys.specs.Keys.{keyIn}
-use Rattle.keys.proofs.Laws.{sample-out}
-use Rattle.contact.specs.Contact.{opposite, stepped}
 use Rattle.judge.specs.Lines.{sampleLines, accessLines, readLines, writeLines, keyLines}
 use Rattle.state.specs.declared.Module.{Module}
 use Rattle.sound.specs.Sound.{sound}
 use Rattle.sound.proofs.Laws.{sound-out}
 use Rattle.scan.specs.Scan.{contactAt}
+use Rattle.scan.proofs.Laws.{out-rests}
 use Rattle.calls.specs.Calls.{lookLines, heldLines, lookNumber, writeNumber, readNumber, heldNumber, interruptNumber}
 use Rattle.calls.specs.Calls.{outcome, answer, resetCall, lookCall, writeCall, readCall, heldCall, interruptCall}
 use Rattle.demands.specs.Machine.{Call, reset, look, write, read, held, interrupt}
@@ -47,11 +46,9 @@ falls-means m s =
     (λ e h. true-false (sym (all-below f 104 e (h .0) (h .1 .0)) ∙ rw (h .1 .1 .0, h .1 .1 .1)))
 
 module _ (m : Module) (s : List ℕ) (ok : sound m ≡ true) where
-  -- an open contact with no run stays so while its sample counts as open
   still : (k : ℕ) → k < 104 → (b : Bool) → keyIn (m .size) k ≡ b → (keyIn (m .size) k || not (contactAt m s k .changed)) ≡ true
-  unfolding contactAt stepped opposite
   still k h true e = rw e
-  still k h false e = let out = sound-out m ok k h e in rw (e, out .0, out .1, sample-out s (m .size) k e)
+  still k h false e = let out = sound-out m ok k h e in rw (e, out-rests m s k e (out .0) (out .1))
 
   pub nine-never : falls m s ≡ false
   unfolding falls

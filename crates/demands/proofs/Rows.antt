@@ -59,7 +59,7 @@ none-of false false false e (inr (inl f)) = true-false (sym f)
 none-of false false false e (inr (inr f)) = true-false (sym f)
 
 -- "some sample has bit 13, 14 or 15 set"
-decide-high : (s : List ℕ) → Decides (not (all (λ x. not (high x)) s)) (HighBits s)
+pub decide-high : (s : List ℕ) → Decides (not (all (λ x. not (high x)) s)) (HighBits s)
 unfolding high
 decide-high s =
     let f : ℕ → Bool = λ x. not (high x) in

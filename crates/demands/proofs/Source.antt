@@ -1,7 +1,8 @@
--- OURS IS THE SOURCE: what the contract of each of the six functions in crates/calls/src/lib.rt allows is what the machine `ours` does; and of the
--- functions in crates/carry/src/, what the carrier `ours` does.
+-- OURS IS THE SOURCE: what the contract of each of the six functions in crates/calls/src/lib.rt allows is what the machine `ours` does, and of `looks`
+-- there what the blocks of `wide` are; and of the functions in crates/carry/src/, what the carrier `ours` does.
 --
 --    reset-source, look-source, write-source, read-source, held-source, interrupt-source
+--    looks-source
 --    pack-source, add-source, check-source, record-source, play-source
 --
 -- Each Post is what the toolchain makes of a function's `ensures` lines, and the function is proved to meet it. x is the result,
@@ -22,6 +23,9 @@ use Rattle.calls.proofs.reset.Kinds as reset-kinds
 use Rattle.calls.proofs.reset.Reads as resets
 use Rattle.calls.proofs.look.Kinds as look-kinds
 use Rattle.calls.proofs.look.Reads as looks
+use Rattle.calls.specs.declared.Block.{Block}
+use Rattle.calls.proofs.looks.Kinds as looks-kinds
+use Rattle.calls.proofs.looks.Reads as blocks
 use Rattle.calls.proofs.write.Kinds as write-kinds
 use Rattle.calls.proofs.write.Reads as writes
 use Rattle.calls.proofs.read.Kinds as read-kinds
@@ -46,7 +50,7 @@ use Rattle.carry.proofs.reader.record_at.Reads as records
 use Rattle.carry.proofs.player.play.Kinds as play-kinds
 use Rattle.carry.proofs.player.play.Reads as plays
 use Rattle.demands.specs.Machine.{reset, look, write, read, held, interrupt}
-use Rattle.demands.specs.Ours.{changing, asking, called}
+use Rattle.demands.specs.Ours.{changing, asking, called, blocking, wide}
 
 pub reset-source : (κs : Lfts 0) (a : Dens κs reset-kinds.ps) (x : Done) (e : AtExit (endedOf 0 reset-kinds.ps reset-kinds.r) κs)
     → resets.Post κs a x e → (m : Module) → changing x [] ≡ called m reset
@@ -77,6 +81,12 @@ pub interrupt-source : (κs : Lfts 0) (a : Dens κs interrupt-kinds.ps) (x : Ans
     → interrupts.Post κs a x e → asking x ≡ called (a .0) interrupt
 unfolding called
 interrupt-source κs a x e p = ap asking p
+
+-- ---- blocks of looks
+
+pub looks-source : (κs : Lfts 1) (a : Dens κs looks-kinds.ps) (x : Block) (e : AtExit (endedOf 1 looks-kinds.ps looks-kinds.r) κs)
+    → blocks.Post κs a x e → blocking x ≡ wide .looks (a .0) (now (a .1 .0))
+looks-source κs a x e p = ap blocking p
 
 -- ---- packed lists
 

@@ -1,7 +1,8 @@
--- TOTAL: the six calls, and the five of packed lists, take every value. Each Pre is what the toolchain makes of a function's `requires` lines in crates/calls/src/ and
+-- TOTAL: the six calls, blocks of looks, and the five of packed lists, take every value. Each Pre is what the toolchain makes of a function's `requires` lines in crates/calls/src/ and
 -- crates/carry/src/: there are none, and it holds of all arguments.
 --
 --    reset-total, look-total, write-total, read-total, held-total, interrupt-total
+--    looks-total
 --    pack-total, add-total, check-total, record-total, play-total
 -- Assumes nothing.
 use contract.Lifetimes.{Lfts}
@@ -10,6 +11,8 @@ use Rattle.calls.proofs.reset.Kinds as reset-kinds
 use Rattle.calls.proofs.reset.Reads as resets
 use Rattle.calls.proofs.look.Kinds as look-kinds
 use Rattle.calls.proofs.look.Reads as looks
+use Rattle.calls.proofs.looks.Kinds as looks-kinds
+use Rattle.calls.proofs.looks.Reads as blocks
 use Rattle.calls.proofs.write.Kinds as write-kinds
 use Rattle.calls.proofs.write.Reads as writes
 use Rattle.calls.proofs.read.Kinds as read-kinds
@@ -47,6 +50,10 @@ held-total κs a = tt
 
 pub interrupt-total : (κs : Lfts 0) (a : Dens κs interrupt-kinds.ps) → interrupts.Pre κs a
 interrupt-total κs a = tt
+
+-- blocks of looks
+pub looks-total : (κs : Lfts 1) (a : Dens κs looks-kinds.ps) → blocks.Pre κs a
+looks-total κs a = tt
 
 -- packed lists
 pub pack-total : (κs : Lfts 2) (a : Dens κs pack-kinds.ps) → packs.Pre κs a

@@ -23,6 +23,7 @@ use Rattle.demands.specs.Table.{First, rules}
 
 -- "1. The module takes every call, with every value, and finishes it. What it can't do it declines with a number from our list,
 -- and a declined call alters neither the module nor the caller's buffer."
+-- Of the six calls; the same with blocks of looks, and with the exception that these have, is Demand1Wide on the page Blocks.
 pub record Demand1 (M : Machine) : Type 0 where
   -- of every state whose parts are values of their types
   pub exact : (σ : M .State) → Typed (M .parts σ) → (c : Call) → First (rules M σ c) (M .does σ c .number)

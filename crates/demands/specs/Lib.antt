@@ -2,8 +2,10 @@ pub mod Machine
 pub mod Carrying
 pub mod Table
 pub mod Demands
+pub mod Blocks
 pub mod Ours
 pub mod Shown
 pub mod Wrong
+pub mod WrongBlocks
 pub mod Sessions
 pub mod Retired

@@ -1,8 +1,10 @@
--- OUR SIX CALLS, as a machine.
+-- OUR SIX CALLS, as a machine, and with blocks of looks.
 --
 --    changing d buffer, asking a    what a call and a question of crates/calls give back, as a machine's call gives it
 --    called m c                     what our calls do
 --    ours                           the machine
+--    blocking b                     what a block of crates/calls gives back, as a machine's block gives it
+--    wide                           ours, with our blocks
 use Prim.Native.Nat.{ℕ}
 use mathlib.Core.Bool.{false}
 use mathlib.Core.List.{List, []}
@@ -11,8 +13,11 @@ use Rattle.state.specs.declared.Module.{Module}
 use Rattle.state.specs.Module.{fresh}
 use Rattle.calls.specs.declared.Done.{Done}
 use Rattle.calls.specs.declared.Answered.{Answered}
+use Rattle.calls.specs.declared.Block.{Block as Looked}
 use Rattle.calls.specs.Calls.{resetCall, lookCall, writeCall, readCall, readBuffer, heldCall, interruptCall}
+use Rattle.calls.specs.Blocks.{looksCall}
 use Rattle.demands.specs.Machine.{Call, reset, look, write, read, held, interrupt, Gives, Machine}
+use Rattle.demands.specs.Blocks.{Block, Wide}
 
 unfoldable pub changing : Done → List ℕ → Gives Module
 changing d buffer = record { number = d .number; next = d .after; buffer = buffer; answer = false }
@@ -30,3 +35,9 @@ called m interrupt = asking (interruptCall m)
 
 abbrev pub ours : Machine
 ours = record { State = Module; start = fresh; parts = λ m. m; does = called }
+
+unfoldable pub blocking : Looked → Block Module
+blocking b = record { number = b .number; done = b .done; next = b .after }
+
+abbrev pub wide : Wide
+wide = record { calls = ours; looks = λ m s. blocking (looksCall m s) }

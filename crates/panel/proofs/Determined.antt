@@ -1,7 +1,7 @@
 -- DETERMINED: two outcomes that the contract of an exported function allows for the same arguments are equal.
 --
 --    two-facts    what follows from two propositions follows from the assertions of both
---    look-determined, write-determined, read-determined, held-determined, interrupt-determined, reset-determined
+--    look-determined, looks-determined, write-determined, read-determined, held-determined, interrupt-determined, reset-determined
 --    pack-determined, add-determined, unpack-determined
 --
 -- An outcome is the result, x or y, and what everything lent to be altered holds at exit, e or f. Each theorem is on the clauses that the toolchain makes of the source
@@ -34,6 +34,7 @@ use Rattle.panel.proofs.panel_add_numbers.Reads as adds
 use Rattle.panel.proofs.panel_unpack_value.Kinds as unpack-kinds
 use Rattle.panel.proofs.panel_unpack_value.Reads as unpacks
 use Rattle.panel.proofs.panel_look as looks
+use Rattle.panel.proofs.panel_looks as blocks
 use Rattle.panel.proofs.panel_write as writes
 use Rattle.panel.proofs.panel_read as reads
 use Rattle.panel.proofs.panel_held as helds
@@ -50,6 +51,11 @@ module _ {M : Type 1} (𝓤 : URA M) (H : Heap 𝓤) (A : Atoms 𝓤) (at-mem : 
       → ent 𝓤 (conj 𝓤 (looks.clauses 𝓤 H A at-mem run κs a .ensures tt x e) (looks.clauses 𝓤 H A at-mem run κs a .ensures tt y f))
       (fact 𝓤 ((x ≡ y) × (now (e .0) ≡ now (f .0))))
   look-determined κs a x y e f = two-facts 𝓤 _ _ _ (λ p q. (p .0 ∙ sym (q .0), p .1 ∙ sym (q .1)))
+
+  pub looks-determined : (κs : Lfts 3) (a : Args blocks.signature κs) (x y : Res blocks.signature κs) (e f : AtExit blocks.ended κs)
+      → ent 𝓤 (conj 𝓤 (blocks.clauses 𝓤 H A at-mem run κs a .ensures tt x e) (blocks.clauses 𝓤 H A at-mem run κs a .ensures tt y f))
+      (fact 𝓤 ((x ≡ y) × (now (e .0) ≡ now (f .0)) × (now (e .1 .1 .0) ≡ now (f .1 .1 .0))))
+  looks-determined κs a x y e f = two-facts 𝓤 _ _ _ (λ p q. (p .0 ∙ sym (q .0), p .1 ∙ sym (q .1), p .2 ∙ sym (q .2)))
 
   pub write-determined : (κs : Lfts 2) (a : Args writes.signature κs) (x y : Res writes.signature κs) (e f : AtExit writes.ended κs)
       → ent 𝓤 (conj 𝓤 (writes.clauses 𝓤 H A at-mem run κs a .ensures tt x e) (writes.clauses 𝓤 H A at-mem run κs a .ensures tt y f))

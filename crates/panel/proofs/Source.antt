@@ -1,7 +1,7 @@
 -- THE EXPORTED FUNCTIONS ARE THE SOURCE: what the toolchain makes of the contracts in src/lib.rt is what specs/Lent.antt says, and for reset and what carries a session
 -- what the calls by value give.
 --
---    look-source, write-source, read-source, held-source, interrupt-source, reset-source
+--    look-source, looks-source, write-source, read-source, held-source, interrupt-source, reset-source
 --    pack-source, add-source, unpack-source
 --
 -- `clauses` is the toolchain's own reading of a function's `ensures` and `requires` lines, and the function is proved to meet it. a are the arguments, x is the result,
@@ -27,7 +27,7 @@ use Rattle.carry.specs.declared.reader.Record.{Record}
 use Rattle.carry.specs.Calls.{callAt}
 use Rattle.carry.specs.Writer.{packCall, packBuffer, addCall, addBuffer}
 use Rattle.carry.specs.Reader.{recordAt}
-use Rattle.panel.specs.Lent.{LookLent, WriteLent, ReadLent, HeldLent, InterruptLent}
+use Rattle.panel.specs.Lent.{LookLent, LooksLent, WriteLent, ReadLent, HeldLent, InterruptLent}
 use Rattle.panel.specs.declared.Written.{Written}
 use Rattle.panel.specs.Written.{ofPacked, ofAdded}
 use Rattle.panel.proofs.panel_reset_value.Kinds as reset-kinds
@@ -39,6 +39,7 @@ use Rattle.panel.proofs.panel_add_numbers.Reads as adds
 use Rattle.panel.proofs.panel_unpack_value.Kinds as unpack-kinds
 use Rattle.panel.proofs.panel_unpack_value.Reads as unpacks
 use Rattle.panel.proofs.panel_look as looks
+use Rattle.panel.proofs.panel_looks as blocks
 use Rattle.panel.proofs.panel_write as writes
 use Rattle.panel.proofs.panel_read as reads
 use Rattle.panel.proofs.panel_held as helds
@@ -48,6 +49,10 @@ module _ {M : Type 1} (𝓤 : URA M) (H : Heap 𝓤) (A : Atoms 𝓤) (at-mem : 
   pub look-source : (κs : Lfts 2) (a : Args looks.signature κs) (x : Res looks.signature κs) (e : AtExit looks.ended κs)
       → looks.clauses 𝓤 H A at-mem run κs a .ensures tt x e ≡ fact 𝓤 (LookLent (now (a .0)) (now (a .1 .0)) x (now (e .0)))
   look-source κs a x e = refl
+
+  pub looks-source : (κs : Lfts 3) (a : Args blocks.signature κs) (x : Res blocks.signature κs) (e : AtExit blocks.ended κs)
+      → blocks.clauses 𝓤 H A at-mem run κs a .ensures tt x e ≡ fact 𝓤 (LooksLent (now (a .0)) (now (a .1 .0)) x (now (e .0)) (now (e .1 .1 .0)))
+  looks-source κs a x e = refl
 
   pub write-source : (κs : Lfts 2) (a : Args writes.signature κs) (x : Res writes.signature κs) (e : AtExit writes.ended κs)
       → writes.clauses 𝓤 H A at-mem run κs a .ensures tt x e ≡ fact 𝓤 (WriteLent (now (a .0)) (a .1 .0) (now (a .1 .1 .0)) x (now (e .0)))

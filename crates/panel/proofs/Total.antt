@@ -1,6 +1,6 @@
 -- TOTAL: the exported functions take every value. What the toolchain makes of a contract asks nothing of the arguments.
 --
---    look-total, write-total, read-total, held-total, interrupt-total, reset-total
+--    look-total, looks-total, write-total, read-total, held-total, interrupt-total, reset-total
 --    pack-total, add-total, unpack-total
 -- Assumes nothing.
 use mathlib.Core.Path.{_≡_, refl}
@@ -24,6 +24,7 @@ use Rattle.panel.proofs.panel_add_numbers.Reads as adds
 use Rattle.panel.proofs.panel_unpack_value.Kinds as unpack-kinds
 use Rattle.panel.proofs.panel_unpack_value.Reads as unpacks
 use Rattle.panel.proofs.panel_look as looks
+use Rattle.panel.proofs.panel_looks as blocks
 use Rattle.panel.proofs.panel_write as writes
 use Rattle.panel.proofs.panel_read as reads
 use Rattle.panel.proofs.panel_held as helds
@@ -33,6 +34,9 @@ use Rattle.panel.proofs.panel_interrupt as lines
 module _ {M : Type 1} (𝓤 : URA M) (H : Heap 𝓤) (A : Atoms 𝓤) (at-mem : Memory → SProp 𝓤) (run : Routine → Fun 𝓤) where
   pub look-total : (κs : Lfts 2) (a : Args looks.signature κs) → looks.clauses 𝓤 H A at-mem run κs a .requires tt ≡ connectives 𝓤 .⊤ₛ
   look-total κs a = refl
+
+  pub looks-total : (κs : Lfts 3) (a : Args blocks.signature κs) → blocks.clauses 𝓤 H A at-mem run κs a .requires tt ≡ connectives 𝓤 .⊤ₛ
+  looks-total κs a = refl
 
   pub write-total : (κs : Lfts 2) (a : Args writes.signature κs) → writes.clauses 𝓤 H A at-mem run κs a .requires tt ≡ connectives 𝓤 .⊤ₛ
   write-total κs a = refl

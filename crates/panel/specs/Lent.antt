@@ -1,12 +1,13 @@
--- What the five lent forms promise: the number, and what everything lent to be altered holds when the call returns.
+-- What the six lent forms promise: the number, and what everything lent to be altered holds when the call returns.
 --
 --    LookLent m s number after              a look with samples s, lent the module m
+--    LooksLent m s number after done        a block of looks with samples s, of which so many are done
 --    WriteLent m a bs number after          a write of the bytes bs at the address a
 --    ReadLent m a out number after bytes    a read at the address a into the buffer out, which then holds these bytes
 --    HeldLent m row col number answer       is the key at this row and column held? m is lent to be looked at only
 --    InterruptLent m number answer          is the interrupt line asserted? m is lent to be looked at only
 --
--- The contracts in src/ are these five lines, and proofs/Determined.antt says that each allows one outcome only.
+-- The contracts in src/ are these six lines, and proofs/Determined.antt says that each allows one outcome only.
 use Prim.Native.Nat.{ℕ}
 use mathlib.Core.Path.{_≡_}
 use mathlib.Core.Bool.{Bool}
@@ -14,9 +15,13 @@ use mathlib.Core.List.{List}
 use lib.ListN.{length}
 use Rattle.state.specs.declared.Module.{Module}
 use Rattle.calls.specs.Calls.{lookCall, writeCall, readCall, readBuffer, heldCall, interruptCall}
+use Rattle.calls.specs.Blocks.{looksCall}
 
 abbrev pub LookLent : Module → List ℕ → ℕ → Module → Type 0
 LookLent m s number after = (number ≡ lookCall m s .number) × (after ≡ lookCall m s .after)
+
+abbrev pub LooksLent : Module → List ℕ → ℕ → Module → ℕ → Type 0
+LooksLent m s number after done = (number ≡ looksCall m s .number) × (after ≡ looksCall m s .after) × (done ≡ looksCall m s .done)
 
 abbrev pub WriteLent : Module → ℕ → List ℕ → ℕ → Module → Type 0
 WriteLent m a bs number after = (number ≡ writeCall m a bs .number) × (after ≡ writeCall m a bs .after)

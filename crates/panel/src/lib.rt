@@ -1,4 +1,4 @@
-// The face for C (include/panel.h): reset by value, five calls over a module that is lent, and sessions carried, by value again.
+// The face for C (include/panel.h): reset by value, five calls and blocks of looks over a module that is lent, and sessions carried, by value again.
 use calls::Done;
 use carry::reader::Record;
 use keys::Col;
@@ -10,7 +10,7 @@ ghost use Rattle.calls.specs.Calls.{resetCall};
 ghost use Rattle.carry.specs.Calls.{callAt};
 ghost use Rattle.carry.specs.Writer.{packCall, packBuffer, addCall, addBuffer};
 ghost use Rattle.carry.specs.Reader.{recordAt};
-ghost use Rattle.panel.specs.Lent.{LookLent, WriteLent, ReadLent, HeldLent, InterruptLent};
+ghost use Rattle.panel.specs.Lent.{LookLent, LooksLent, WriteLent, ReadLent, HeldLent, InterruptLent};
 ghost use Rattle.panel.specs.Written.{ofPacked, ofAdded};
 
 // One look; the module is altered where it is.
@@ -20,6 +20,17 @@ pub extern "C" fn panel_look(m: &mut Module, samples: &[u16]) -> u8
 {
     let r = calls::look(*m, samples);
     *m = r.after;
+    r.number
+}
+
+// Several looks; the module is altered where it is, and how many were done is written where it is lent.
+#[no_mangle]
+pub extern "C" fn panel_looks(m: &mut Module, samples: &[u16], done: &mut usize) -> u8
+    ensures { λ r. ⌜ LooksLent (now (m .entry)) (now (samples .entry)) r (now (m .exit)) (now (done .exit)) ⌝ }
+{
+    let r = calls::looks(*m, samples);
+    *m = r.after;
+    *done = r.done;
     r.number
 }
 

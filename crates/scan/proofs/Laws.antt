@@ -3,6 +3,7 @@
 --    putAll-none                with no code to put the queue stays as it is
 --    below-more                 one key more
 --    below-queue, below-some    what one key more does to the queue, and to whether there is a change
+--    out-rests                  an open contact with no run, out of the size, stays so
 --    looked-noticed             the state after a look: keys and queue, and the flags if there is a change
 -- Assumes nothing.
 use Prim.Native.Nat.{ℕ, _+_}
@@ -10,10 +11,13 @@ use native.Mathlib.Numerals.{add-one}
 use mathlib.Core.Path.{_≡_, refl, sym, ap, _∙_}
 use mathlib.Core.Bool.{Bool, true, false, _||_}
 use mathlib.Core.List.{List, [], _∷_, _++_, append-nil}
+use lib.ListN.{getD}
 use Rattle.words.specs.Words.{_if_, _else_, some}
 use Rattle.words.proofs.Laws.{true-false}
 use Rattle.words.proofs.Lists.{some-append}
-use Rattle.keys.specs.Keys.{code, sample}
+use Rattle.keys.specs.Keys.{code, keyIn, sample}
+use Rattle.keys.proofs.Laws.{sample-out}
+use Rattle.contact.specs.Contact.{opposite, stepped}
 use Rattle.state.specs.declared.Module.{Module}
 use Rattle.state.specs.Module.{Queue, queueOf, withQueue}
 use Rattle.state.specs.Queue.{put, putAll}
@@ -37,6 +41,11 @@ putAll-none q (c ∷ cs) e = true-false e
 
 module _ (m : Module) (s : List ℕ) where
   module _ (k : ℕ) where
+    -- its sample counts as open
+    pub out-rests : keyIn (m .size) k ≡ false → getD (m .held) k false ≡ false → getD (m .run) k 0 ≡ 0 → contactAt m s k ≡ record { held = false; run = 0; changed = false }
+    unfolding contactAt stepped opposite
+    out-rests out still none = rw (still, none, sample-out s (m .size) k out)
+
     pub below-more : changesBelow m s (k + 1) ≡ changesBelow m s k ++ ((code k (sample s (m .size) k) ∷ []) if contactAt m s k .changed else [])
     unfolding changesBelow
     below-more = rw (add-one k)

@@ -4,10 +4,10 @@ use Rattle.keys.proofs.Opened as keys
 use Rattle.contact.proofs.Opened as contact
 use Rattle.state.proofs.Opened as state
 use Rattle.scan.specs.Scan.{contactAt, changesBelow, changes, contacts, noticed, looked}
-use Rattle.scan.specs.Walk.{counted, atKey, atRow}
+use Rattle.scan.specs.Walk.{counted, atKey, atRow, atRows}
 
 unfoldable pub opened : Bool
 unfolding keys.opened contact.opened state.opened
     contactAt changesBelow changes contacts noticed looked
-    counted atKey atRow
+    counted atKey atRow atRows
 opened = true

@@ -1,11 +1,13 @@
 -- The code's walk over the keys, row by row.
 --
 --    row-none, row-next   a row before its first key, and from one key to the next
+--    rows-none, rows-next    the rows before the first, and from one to the next
 --    done m s k           what a look alters, once the keys below k are done
 --    done-none            before the first key
---    done-row             from a row's first key to the next row's
+--    done-rows            after the rows of the size
 --    done-rest            the rows out of the size are still
 --    done-all             after the last key this is the state after the look
+--    walked               so it is after the rows of the size
 -- Assumes nothing.
 use Prim.Native.Nat.{ℕ, zero, suc, _+_, _-_, _*_, _/_, _<_, _≤_}
 use native.Mathlib.Numerals.{add-one, unary-clauses}
@@ -19,14 +21,14 @@ use borrow.Author.Tests.{le-ltb}
 use Rattle.words.specs.Words.{_if_, _else_, some, table}
 use Rattle.words.proofs.Tables.{replaced, replaced-none, replaced-all, replaced-at, replaced-next}
 use Rattle.keys.specs.Keys.{inSize, keyIn, sample}
-use Rattle.keys.proofs.Laws.{place-row, place-col, row-yes, sample-out}
-use Rattle.contact.specs.Contact.{opposite, stepped}
+use Rattle.keys.proofs.Laws.{place-row, place-col, row-yes}
+use Rattle.contact.specs.Contact.{stepped}
 use Rattle.state.specs.declared.Module.{Module}
 use Rattle.state.specs.Module.{queueOf, withKeys, withQueue}
 use Rattle.state.specs.Queue.{putAll}
 use Rattle.scan.specs.Scan.{contactAt, changesBelow, changes, contacts, noticed, looked}
-use Rattle.scan.specs.Walk.{Parts, parts, counted, became, atKey, atRow, Still}
-use Rattle.scan.proofs.Laws.{below-queue, below-some, looked-noticed}
+use Rattle.scan.specs.Walk.{Parts, parts, counted, became, atKey, atRow, atRows, Still}
+use Rattle.scan.proofs.Laws.{out-rests, below-queue, below-some, looked-noticed}
 
 module _ (d size x row : ℕ) (p : Parts) where
   pub row-none : p ≡ atRow d size x row p 0
@@ -37,11 +39,20 @@ module _ (d size x row : ℕ) (p : Parts) where
   unfolding atRow
   row-next col e f g = rw (add-one col) (g ∙ (λ i. atKey d (13 * row + col) (f i) (e i)))
 
-abbrev pub done : Module → List ℕ → ℕ → Parts
+module _ (d size : ℕ) (s : List ℕ) (p : Parts) where
+  pub rows-none : p ≡ atRows d size s p 0
+  unfolding atRows
+  rows-none = refl
+
+  pub rows-next : (row : ℕ) {q r : Parts} → q ≡ atRows d size s p row → r ≡ atRow d size (getD s row 0) row q 13 → r ≡ atRows d size s p (row + 1)
+  unfolding atRows
+  rows-next row e f = rw (add-one row) (f ∙ ap (λ (o : Parts). atRow d size (getD s row 0) row o 13) e)
+
+abbrev done : Module → List ℕ → ℕ → Parts
 done m s k = parts (replaced (λ j. contactAt m s j .held) k (m .held)) (replaced (λ j. contactAt m s j .run) k (m .run)) (putAll (queueOf m) (changesBelow m s k)) (some (changesBelow m s k))
 
 module _ (m : Module) (s : List ℕ) where
-  pub done-none : parts (m .held) (m .run) (queueOf m) false ≡ done m s 0
+  done-none : parts (m .held) (m .run) (queueOf m) false ≡ done m s 0
   unfolding changesBelow putAll some
   done-none = λ i. parts (sym (replaced-none (λ j. contactAt m s j .held) (m .held)) i) (sym (replaced-none (λ j. contactAt m s j .run) (m .run)) i) (queueOf m) false
 
@@ -70,19 +81,23 @@ module _ (m : Module) (s : List ℕ) where
           (λ i. atKey (m .bounce) (13 * row + n) (row-sample n (omega arith) i) (done-below n (omega arith) i))
           ∙ done-next (13 * row + n) (omega arith) (omega arith) ∙ ap (done m s) (omega arith)
 
-      pub done-row : {p q : Parts} → p ≡ done m s (13 * row) → q ≡ atRow (m .bounce) (m .size) (getD s row 0) row p 13 → q ≡ done m s (13 * (row + 1))
-      done-row e f = f ∙ ap (λ (o : Parts). atRow (m .bounce) (m .size) (getD s row 0) row o 13) e ∙ done-below 13 (omega arith) ∙ ap (done m s) (omega arith)
+      done-row : atRow (m .bounce) (m .size) (getD s row 0) row (done m s (13 * row)) 13 ≡ done m s (13 * suc row)
+      done-row = done-below 13 (omega arith) ∙ ap (done m s) (omega arith)
 
-  module _ (still : Still m) (long-held : length (m .held) ≡ 104) (long-run : length (m .run) ≡ 104) where
+  module _ (long-held : length (m .held) ≡ 104) (long-run : length (m .run) ≡ 104) where
+    done-rows : (n : ℕ) → n ≤ 8 → atRows (m .bounce) (m .size) s (done m s 0) n ≡ done m s (13 * n)
+    unfolding atRows
+    done-rows zero l = refl
+    done-rows (suc row) l = ap (λ (o : Parts). atRow (m .bounce) (m .size) (getD s row 0) row o 13) (done-rows row (omega arith)) ∙ done-row row (omega arith) long-held long-run
+
+  module _ (still : Still (m .size) (m .held) (m .run)) (long-held : length (m .held) ≡ 104) (long-run : length (m .run) ≡ 104) where
     module _ (k : ℕ) (low : 13 * (m .size / 16) ≤ k) (h : k < 104) where
       out : keyIn (m .size) k ≡ false
       unfolding keyIn inSize
       out = rw (row-yes k h, le-ltb (k / 13) (m .size / 16) (omega arith))
 
-      -- an open contact with no run stays so while its sample is open
       at-rest : contactAt m s k ≡ record { held = false; run = 0; changed = false }
-      unfolding contactAt stepped opposite
-      at-rest = rw (still .keys k h out .0, still .keys k h out .1, sample-out s (m .size) k out)
+      at-rest = out-rests m s k out (still .keys k h out .0) (still .keys k h out .1)
 
       done-still : done m s k ≡ done m s (k + 1)
       unfolding atKey
@@ -100,7 +115,7 @@ module _ (m : Module) (s : List ℕ) where
     done-on zero l = simp unary-clauses
     done-on (suc n) l = done-on n (omega arith) ∙ done-still (13 * (m .size / 16) + n) (omega arith) (omega arith) ∙ ap (done m s) (omega arith)
 
-    pub done-rest : (row : ℕ) → row ≡ m .size / 16 → {p : Parts} → p ≡ done m s (13 * row) → p ≡ done m s 104
+    done-rest : (row : ℕ) → row ≡ m .size / 16 → {p : Parts} → p ≡ done m s (13 * row) → p ≡ done m s 104
     done-rest row all e = let few = still .rows in e ∙ ap (λ (r : ℕ). done m s (13 * r)) all ∙ done-on (104 - 13 * (m .size / 16)) (omega arith) ∙ ap (done m s) (omega arith)
 
   module _ {p : Parts} {k : ℕ} (e : p ≡ done m s k) (all : k ≡ 104) (long-held : length (m .held) ≡ 104) (long-run : length (m .run) ≡ 104) where
@@ -112,5 +127,13 @@ module _ (m : Module) (s : List ℕ) where
     unfolding contacts
     done-state = ap (λ (o : Parts). withQueue (withKeys m (o .held) (o .run)) (o .queue)) done-parts
 
-    pub done-all : (b : Bool) → p .any ≡ b → (noticed (withQueue (withKeys m (p .held) (p .run)) (p .queue)) if b else withQueue (withKeys m (p .held) (p .run)) (p .queue)) ≡ looked m s
+    done-all : (b : Bool) → p .any ≡ b → (noticed (withQueue (withKeys m (p .held) (p .run)) (p .queue)) if b else withQueue (withKeys m (p .held) (p .run)) (p .queue)) ≡ looked m s
     done-all b f = ap (λ (n : Module). noticed n if b else n) done-state ∙ sym (looked-noticed m s b (sym (ap (λ (o : Parts). o .any) done-parts) ∙ f))
+
+  module _ (still : Still (m .size) (m .held) (m .run)) (long-held : length (m .held) ≡ 104) (long-run : length (m .run) ≡ 104) where
+    pub walked : {p : Parts} → p ≡ atRows (m .bounce) (m .size) s (parts (m .held) (m .run) (queueOf m) false) (m .size / 16)
+        → (b : Bool) → p .any ≡ b → (noticed (withQueue (withKeys m (p .held) (p .run)) (p .queue)) if b else withQueue (withKeys m (p .held) (p .run)) (p .queue)) ≡ looked m s
+    walked e b f =
+        let rows = m .size / 16 in
+        let all = e ∙ ap (λ (o : Parts). atRows (m .bounce) (m .size) s o rows) done-none ∙ done-rows long-held long-run rows (still .rows) in
+        done-all (done-rest still long-held long-run rows refl all) refl long-held long-run b f

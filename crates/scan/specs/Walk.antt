@@ -4,7 +4,11 @@
 --    counted x size row col       a key's sample, x being its row's
 --    atKey d k closed p           the parts p after key k's sample, d being the bounce
 --    atRow d size x row p n       the parts p after the row's keys in columns below n
---    Still m                      every key out of the size is open and has no run, and there are at most 8 rows
+--    atRows d size s p n          the parts p after the rows below n, s being the samples
+--    Altered, altered h r q rs rk seen    all that a look can alter: the parts, but for whether a key has changed, and the flags and marks
+--    whole d size a mask porirq   the module that has these
+--    LookedOn d size s a b        a look with the samples s makes b of a, whatever the mask and PORIRQ, which it neither asks nor alters
+--    Still size held run          every key out of the size is open and has no run, and there are at most 8 rows
 use Prim.Native.Nat.{ℕ, zero, suc, _+_, _*_, _/_, _≤_, _<_}
 use mathlib.Core.Path.{_≡_}
 use mathlib.Core.Bool.{Bool, false, _||_}
@@ -15,8 +19,9 @@ use Rattle.keys.specs.Keys.{code, inSize, keyIn}
 use Rattle.contact.specs.declared.Contact.{Contact}
 use Rattle.contact.specs.Contact.{stepped}
 use Rattle.state.specs.declared.Module.{Module}
-use Rattle.state.specs.Module.{Queue}
+use Rattle.state.specs.Module.{Queue, keys, settings, flags, made}
 use Rattle.state.specs.Queue.{put}
+use Rattle.scan.specs.Scan.{looked}
 
 pub record Parts : Type 0 where
   pub held : List Bool
@@ -43,7 +48,28 @@ unfoldable pub atRow : ℕ → ℕ → ℕ → ℕ → Parts → ℕ → Parts
 atRow d size x row p zero = p
 atRow d size x row p (suc col) = atKey d (13 * row + col) (counted x size row col) (atRow d size x row p col)
 
+unfoldable pub atRows : ℕ → ℕ → List ℕ → Parts → ℕ → Parts
+atRows d size s p zero = p
+atRows d size s p (suc row) = atRow d size (getD s row 0) row (atRows d size s p row) 13
+
+pub record Altered : Type 0 where
+  pub held : List Bool
+  pub run : List ℕ
+  pub queue : Queue
+  pub rsint : Bool
+  pub rklint : Bool
+  pub seen : List Bool
+
+abbrev pub altered : List Bool → List ℕ → Queue → Bool → Bool → List Bool → Altered
+altered held run queue rsint rklint seen = record { held = held; run = run; queue = queue; rsint = rsint; rklint = rklint; seen = seen }
+
+abbrev pub whole : ℕ → ℕ → Altered → ℕ → Bool → Module
+whole d size a mask porirq = made (keys (a .held) (a .run)) (a .queue) (settings d size mask) (flags (a .rsint) (a .rklint) porirq (a .seen))
+
+unfoldable pub LookedOn : ℕ → ℕ → List ℕ → Altered → Altered → Type 0
+LookedOn d size s a b = (mask : ℕ) (porirq : Bool) → whole d size b mask porirq ≡ looked (whole d size a mask porirq) s
+
 -- what soundness says of the keys that a look need not walk
-pub record Still (m : Module) : Type 0 where
-  pub rows : m .size / 16 ≤ 8
-  pub keys : (k : ℕ) → k < 104 → keyIn (m .size) k ≡ false → (getD (m .held) k false ≡ false) × (getD (m .run) k 0 ≡ 0)
+pub record Still (size : ℕ) (held : List Bool) (run : List ℕ) : Type 0 where
+  pub rows : size / 16 ≤ 8
+  pub keys : (k : ℕ) → k < 104 → keyIn size k ≡ false → (getD held k false ≡ false) × (getD run k 0 ≡ 0)

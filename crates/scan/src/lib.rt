@@ -7,12 +7,12 @@ use keys::Row;
 use state::Module;
 use state::PLACES;
 ghost use mathlib.Core.Path.{_≡_};
-ghost use Prim.Native.Nat.{_<_, _+_, _*_};
+ghost use Prim.Native.Nat.{_<_, _≤_, _+_, _*_, _/_};
 ghost use lib.ListN.{length};
 ghost use Rattle.state.specs.Module.{queue};
-ghost use Rattle.scan.specs.Scan.{looked, noticed};
+ghost use Rattle.scan.specs.Scan.{looked};
 ghost use Rattle.scan.specs.Walk as walk;
-ghost use Rattle.scan.specs.Walk.{parts};
+ghost use Rattle.scan.specs.Walk.{parts, altered};
 
 // Is a key closed, by its row's sample? Out of the size it counts as open.
 fn is_closed(sample: u16, size: u8, row: Row, col: Col) -> bool
@@ -98,20 +98,88 @@ fn look_at_row(
     }
 }
 
-// What a look with at least one change does to the flags and the marks.
-fn noticed(m: Module) -> Module
-    ensures { λ r. ⌜ r ≡ noticed m ⌝ }
+// What a look does to the keys of the rows in the size. Rows out of it are still, and are not walked.
+fn look_at_rows(
+    held: &mut [bool; KEYS],
+    run: &mut [u8; KEYS],
+    places: &mut [u8; PLACES],
+    count: &mut u8,
+    relint: &mut bool,
+    any: &mut bool,
+    samples: &[u16],
+    size: u8,
+    bounce: u8,
+)
+    requires { ⌜ (length (now samples) ≡ 8) × (size / 16 ≤ 8) ⌝ }
+    ensures { λ _. ⌜
+        parts (now (held .exit)) (now (run .exit)) (queue (now (places .exit)) (now (count .exit)) (now (relint .exit))) (now (any .exit))
+        ≡ walk.atRows bounce size (now (samples .entry))
+        (parts (now (held .entry)) (now (run .entry)) (queue (now (places .entry)) (now (count .entry)) (now (relint .entry))) (now (any .entry)))
+        (size / 16) ⌝ }
 {
-    let mut after = m;
-    after.rklint = m.rklint | m.rsint;
-    after.rsint = true;
-    after.seen = [false; 4];
-    after
+    let rows = size / 16;
+    let mut row: u8 = 0;
+    while row < rows {
+        look_at_row(
+            held,
+            run,
+            places,
+            count,
+            relint,
+            any,
+            row,
+            samples[row as usize],
+            size,
+            bounce,
+        );
+        row = row + 1;
+    }
 }
 
-// What one look does to a module. Rows out of the size are still, and are not walked.
+// What one look does to the parts of a module that it can alter: keys, queue, flags and marks.
+pub fn look_on(
+    held: &mut [bool; KEYS],
+    run: &mut [u8; KEYS],
+    places: &mut [u8; PLACES],
+    count: &mut u8,
+    relint: &mut bool,
+    rsint: &mut bool,
+    rklint: &mut bool,
+    seen: &mut [bool; 4],
+    samples: &[u16],
+    size: u8,
+    bounce: u8,
+)
+    requires { ⌜ (length (now samples) ≡ 8) × (length (now held) ≡ 104) × (length (now run) ≡ 104) × walk.Still size (now held) (now run) ⌝ }
+    ensures { λ _. ⌜ walk.LookedOn bounce size (now (samples .entry))
+        (altered (now (held .entry)) (now (run .entry)) (queue (now (places .entry)) (now (count .entry)) (now (relint .entry)))
+        (now (rsint .entry)) (now (rklint .entry)) (now (seen .entry)))
+        (altered (now (held .exit)) (now (run .exit)) (queue (now (places .exit)) (now (count .exit)) (now (relint .exit)))
+        (now (rsint .exit)) (now (rklint .exit)) (now (seen .exit))) ⌝ }
+{
+    let mut any = false;
+    look_at_rows(
+        held,
+        run,
+        places,
+        count,
+        relint,
+        &mut any,
+        samples,
+        size,
+        bounce,
+    );
+    if any {
+        *rklint = *rklint | *rsint;
+        *rsint = true;
+        *seen = [false; 4];
+        return;
+    }
+}
+
+// What one look does to a module.
 pub fn looked(m: Module, samples: &[u16]) -> Module
-    requires { ⌜ (length (now samples) ≡ 8) × walk.Still m ⌝ }
+    requires { ⌜ (length (now samples) ≡ 8) × walk.Still (m .size) (m .held) (m .run) ⌝ }
     ensures { λ r. ⌜ r ≡ looked m (now (samples .entry)) ⌝ }
 {
     let mut held = m.held;
@@ -119,32 +187,30 @@ pub fn looked(m: Module, samples: &[u16]) -> Module
     let mut places = m.queue;
     let mut count = m.count;
     let mut relint = m.relint;
-    let mut any = false;
-    let rows = m.size / 16;
-    let mut row: u8 = 0;
-    while row < rows {
-        look_at_row(
-            &mut held,
-            &mut run,
-            &mut places,
-            &mut count,
-            &mut relint,
-            &mut any,
-            row,
-            samples[row as usize],
-            m.size,
-            m.bounce,
-        );
-        row = row + 1;
-    }
+    let mut rsint = m.rsint;
+    let mut rklint = m.rklint;
+    let mut seen = m.seen;
+    look_on(
+        &mut held,
+        &mut run,
+        &mut places,
+        &mut count,
+        &mut relint,
+        &mut rsint,
+        &mut rklint,
+        &mut seen,
+        samples,
+        m.size,
+        m.bounce,
+    );
     let mut after = m;
     after.held = held;
     after.run = run;
     after.queue = places;
     after.count = count;
     after.relint = relint;
-    if any {
-        return noticed(after);
-    }
+    after.rsint = rsint;
+    after.rklint = rklint;
+    after.seen = seen;
     after
 }

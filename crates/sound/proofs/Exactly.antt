@@ -102,7 +102,7 @@ run-said : (size k : ℕ) (held : Bool) (run : ℕ) → keySound size k held run
 unfolding keySound
 run-said size k held run e = leb-true run 254 (and-right (keyIn size k || (not held && eqb run 0)) (leb run 254) e)
 
-said-key : (size k : ℕ) (held : Bool) (run : ℕ) → (keyIn size k ≡ false → (held ≡ false) × (run ≡ 0)) → run ≤ 254 → keySound size k held run ≡ true
+pub said-key : (size k : ℕ) (held : Bool) (run : ℕ) → (keyIn size k ≡ false → (held ≡ false) × (run ≡ 0)) → run ≤ 254 → keySound size k held run ≡ true
 unfolding keySound
 said-key size k held run out low =
     and-both (keyIn size k || (not held && eqb run 0)) (leb run 254)

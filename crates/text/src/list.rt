@@ -1,16 +1,16 @@
-// Lists of numbers, made narrower.
+// Lists of numbers, copied and made narrower.
 use crate::page::least;
 ghost use Prim.Native.Nat.{_≤_};
 ghost use lib.ListN.{length};
 
-// The first numbers of a list as samples, as many as there is room for.
-pub fn as_samples(numbers: &[u32], samples: &mut [u16]) -> usize
-    ensures { λ r. ⌜ r ≤ length (now (samples .exit)) ⌝ }
+// The first numbers of a list go to another, as many as there is room for.
+pub fn copied(numbers: &[u16], other: &mut [u16]) -> usize
+    ensures { λ r. ⌜ r ≤ length (now (other .exit)) ⌝ }
 {
-    let n = least(numbers.len(), samples.len());
+    let n = least(numbers.len(), other.len());
     let mut i: usize = 0;
     while i < n {
-        samples[i] = (numbers[i] % 65536) as u16;
+        other[i] = numbers[i];
         i = i + 1;
     }
     n

@@ -91,13 +91,17 @@ impl Maker {
         } else {
             self.told(|maker| maker.some_calls(1000))
         };
-        let mut line = match command {
+        let line = match command {
             "pack" => pack_line(&calls),
             _ => list_line(command, &calls),
         };
+        self.say_long(line);
+    }
+
+    /// A line with blanks behind it, so that it has about the longest length.
+    pub(super) fn say_long(&mut self, line: String) {
         let length = self.chance.pick(&[LONGEST - 1, LONGEST, LONGEST, LONGEST, LONGEST + 1]);
-        line.push_str(&" ".repeat(length - line.len()));
-        self.lines.push(line.into_bytes());
+        self.lines.push(format!("{line:length$}").into_bytes());
     }
 }
 
@@ -145,9 +149,7 @@ impl Maker {
             _ if self.chance.one_in(8) => self.carry_long(),
             _ => {}
         }
-        for _ in 0..self.chance.below(4) {
-            self.go_on();
-        }
+        self.go_on_a_while();
     }
 
     /// A list is unpacked.
@@ -191,6 +193,13 @@ impl Maker {
     fn carry_bytes(&mut self) {
         let (command, list) = (self.chance.pick(&["unpack", "play"]), self.some_list());
         self.list(command, &list);
+    }
+
+    /// What a person and a host do next.
+    pub(super) fn go_on_a_while(&mut self) {
+        for _ in 0..self.chance.below(4) {
+            self.go_on();
+        }
     }
 
     /// What a person or a host does next.

@@ -91,9 +91,13 @@ impl Maker {
         self.wait_some();
     }
 
-    /// A look that is declined, and looks at the contacts behind it.
+    /// A look or a block that is declined, and looks at the contacts behind it.
     fn decline_and_wait(&mut self) {
-        self.decline_look();
+        if self.chance.one_in(2) {
+            self.decline_look();
+        } else {
+            self.decline_block();
+        }
         self.wait_some();
     }
 

@@ -48,12 +48,7 @@ impl Maker {
 
     /// A look with a contact or two that change.
     fn some_look(&mut self) -> Call {
-        for _ in 0..self.chance.below(3) {
-            self.touch();
-        }
-        if self.count_closed() > 9 {
-            self.let_go();
-        }
+        self.tap(9);
         Call::Look(self.samples().to_vec())
     }
 

@@ -32,6 +32,11 @@ impl Calls for Watched {
         }
     }
 
+    fn looks(&mut self, list: &[u16]) -> (u8, usize) {
+        let done = list.chunks(8).take_while(|samples| self.look(samples) == 0).count();
+        (if 8 * done < list.len() { 8 } else { 0 }, done)
+    }
+
     fn write(&mut self, _: u8, _: &[u8]) -> u8 {
         0
     }
@@ -97,6 +102,8 @@ fn a_refused_finger_moves_nothing() {
         "press 0 0 0",
         "release 8 0",
         "release 0 C",
+        "looks 1 1 1 1 1 1 1 1 1 1 1 1 1 1 1 10000",
+        "looks 1 1 1 1 1 1 1 1 g",
         "wait 65536",
         "wait",
         "wait 1 1",
@@ -173,6 +180,18 @@ fn only_a_look_that_is_done_sets_the_contacts() {
     console.answer(b"wait 1");
     let set = vec![1, 2, 4, 8, 0x10, 0x20, 0x40, 0x1000];
     assert_eq!(*looks.borrow(), [set.clone(), vec![0; 8], set]);
+}
+
+#[test]
+fn the_last_look_of_a_block_that_is_done_sets_the_contacts() {
+    let line = b"looks 1 0 0 0 0 0 0 0 2 0 0 0 0 0 0 0 4 0 0 0 0 0 0 0";
+    for (done, answer, set) in [(0, "8 0", 8), (1, "8 1", 1), (2, "8 2", 2), (3, "0 3", 4)] {
+        let (mut console, looks) = watched(1, done + 1);
+        console.answer(b"look 8 0 0 0 0 0 0 0");
+        assert_eq!(console.answer(line).unwrap(), answer);
+        console.answer(b"wait 1");
+        assert_eq!(*looks.borrow().last().unwrap(), [set, 0, 0, 0, 0, 0, 0, 0], "{answer}");
+    }
 }
 
 #[test]

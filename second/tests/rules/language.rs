@@ -79,6 +79,9 @@ fn numbers_that_are_too_large() {
         "wait 18446744073709551616",
         "look 10000 0 0 0 0 0 0 0",
         "look 0 0 0 0 0 0 0 10000000000000000",
+        "looks 10000",
+        "looks 0 0 0 0 0 0 0 0 10000 0 0 0 0 0 0 0",
+        "looks 0 0 0 0 0 0 0 10000000000000000",
     ] {
         assert!(refused(line.as_bytes()), "{line}");
     }
@@ -105,6 +108,10 @@ fn digits_that_are_none() {
         "look g",
         "look 0 0 0 0 0 0 0 0 g",
         "look 0,0",
+        "looks g",
+        "looks 0 0 0 0 0 0 0 0 g",
+        "looks 0 0 0 0 0 0 0 0 ; 0 0 0 0 0 0 0 0",
+        "looks # none",
     ] {
         assert!(refused(line.as_bytes()), "{line}");
     }
@@ -182,6 +189,9 @@ fn unknown_words() {
     for line in ["foo", "RESET", "Irq", "LOOK 0", "look0", "res", "resets", "?", ".", "0", "irq;"] {
         assert!(refused(line.as_bytes()), "{line}");
     }
+    for line in ["LOOKS", "Looks 0", "looks0", "lookss", "loo"] {
+        assert!(refused(line.as_bytes()), "{line}");
+    }
     for line in ["Press 0 0", "RELEASE 0 0", "press0 0", "Wait 1", "waits 1", "QUIT", "qui", "exit"]
     {
         assert!(refused(line.as_bytes()), "{line}");
@@ -215,6 +225,9 @@ fn what_is_wrong_and_the_word() {
         held C 0 -> ? not a decimal number: C
         look 0x1 -> ? not a hexadecimal number: 0x1
         look 10000 -> ? number too large: 10000
+        looks 0x1 -> ? not a hexadecimal number: 0x1
+        looks 0 10000 -> ? number too large: 10000
+        pack 9 looks 0 -> ? not a call: looks
         press 8 0 -> ? not a row: 8
         release 0 13 -> ? not a column: 13
         read 10 -> ? too few words
@@ -345,9 +358,14 @@ fn the_longest_line() {
         line.truncate(length);
         line
     };
-    for (text, fill, whole) in
-        [("irq", " ", "0 yes\n"), ("# irq", "x", ""), ("", "\t", ""), ("look", " 0", "1\n")]
-    {
+    for (text, fill, whole) in [
+        ("irq", " ", "0 yes\n"),
+        ("# irq", "x", ""),
+        ("", "\t", ""),
+        ("look", " 0", "1\n"),
+        ("looks", " 0", "1 0\n"),
+        ("looks 00000000000", " 0", "0 1023\n"),
+    ] {
         let (fits, over) = (padded(text, fill, LONGEST), padded(text, fill, LONGEST + 1));
         assert_eq!(output(format!("{fits}\nirq\n").as_bytes()), format!("{whole}0 yes\n"));
         assert_eq!(output(fits.as_bytes()), whole);

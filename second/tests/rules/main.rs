@@ -1,6 +1,7 @@
 //! The rules through the console's language, with every expected answer written out.
 
 mod accesses;
+mod blocks;
 mod carry;
 mod fingers;
 mod language;
@@ -22,6 +23,42 @@ fn session(text: &str) {
         let answer = console.answer(command.as_bytes());
         assert_eq!(answer.as_deref(), Some(expected), "{command}\nin this session:{text}");
     }
+}
+
+/// A console that has been given these lines.
+fn after(lines: &[String]) -> Console {
+    let mut console = Console::new();
+    lines.iter().for_each(|line| drop(console.answer(line.as_bytes())));
+    console
+}
+
+/// What shows a panel and its contacts: flags and settings, codes that wait, the picture and the
+/// flag that it clears, samples under way, and at last the contacts as they are.
+const SHOWING: [&str; 17] = [
+    "irq",
+    "read 06 2",
+    "read 09 1",
+    "read 02 2",
+    "read 10 16",
+    "read 06 1",
+    "read 0C 1",
+    "read 0B 4",
+    "read 06 1",
+    "write 02 04",
+    "wait 1",
+    "read 10 16",
+    "write 02 02",
+    "wait 1",
+    "read 10 16",
+    "write 02 01 8C",
+    "wait 1",
+];
+
+/// What a console shows of its panel and its contacts, with the keys held before and behind it.
+fn seen(console: &mut Console) -> Vec<String> {
+    let keys = (0..8).flat_map(|row| (0..13).map(move |column| format!("held {row} {column}")));
+    let lines = keys.clone().chain(SHOWING.map(String::from)).chain(keys);
+    lines.map(|line| console.answer(line.as_bytes()).unwrap()).collect()
 }
 
 /// A line of one word and the same word many times after it.

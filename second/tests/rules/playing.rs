@@ -1,48 +1,12 @@
 //! Packed lists that are played, and sessions that are recorded as one.
 
-use crate::{digits, packed, session, some_call, some_calls};
+use crate::{after, digits, packed, seen, session, some_call, some_calls};
 use second::calls::Call;
 use second::carry::unpack;
 use second::chance::Chance;
 use second::console::Console;
 use second::script::script;
 use second::typed::text;
-
-/// A console that has been given these lines.
-fn after(lines: &[String]) -> Console {
-    let mut console = Console::new();
-    lines.iter().for_each(|line| drop(console.answer(line.as_bytes())));
-    console
-}
-
-/// What shows a panel and its contacts: flags and settings, codes that wait, the picture and the
-/// flag that it clears, samples under way, and at last the contacts as they are.
-const SHOWING: [&str; 17] = [
-    "irq",
-    "read 06 2",
-    "read 09 1",
-    "read 02 2",
-    "read 10 16",
-    "read 06 1",
-    "read 0C 1",
-    "read 0B 4",
-    "read 06 1",
-    "write 02 04",
-    "wait 1",
-    "read 10 16",
-    "write 02 02",
-    "wait 1",
-    "read 10 16",
-    "write 02 01 8C",
-    "wait 1",
-];
-
-/// What a console shows of its panel and its contacts, with the keys held before and behind it.
-fn seen(console: &mut Console) -> Vec<String> {
-    let keys = (0..8).flat_map(|row| (0..13).map(move |column| format!("held {row} {column}")));
-    let lines = keys.clone().chain(SHOWING.map(String::from)).chain(keys);
-    lines.map(|line| console.answer(line.as_bytes()).unwrap()).collect()
-}
 
 // Playing.
 
@@ -210,6 +174,11 @@ fn what_is_recorded() {
         "look",
         "look 0 0 0 0 0 0 0",
         "look 2000 0 0 0 0 0 0 0",
+        "looks",
+        "looks 0 0 0 0 0 0 0",
+        "looks 0 0 0 0 0 0 0 0 0",
+        "looks 2000 0 0 0 0 0 0 0 0 0 0 0 0 0 0 0",
+        "looks 0 0 0 0 0 0 0 0 g",
         "press 8 0",
         "wait 0",
         "reset 0",
@@ -231,6 +200,17 @@ fn every_look_of_a_finger_is_recorded() {
         recorded(&["write 02 00", "press 3 SF", "wait 2", "reset", "wait 1"]),
         ["write 02 00", down, down, down, "reset", down],
     );
+}
+
+#[test]
+fn every_look_of_a_block_that_was_done_is_recorded() {
+    let (one, two) = ("look 1 0 0 0 0 0 0 0", "look 0 0 0 0 0 0 0 1FFF");
+    assert_eq!(recorded(&["looks 1 0 0 0 0 0 0 0"]), [one]);
+    let lines = ["reset", "looks 1 0 0 0 0 0 0 0 0 0 0 0 0 0 0 1FFF", "wait 1"];
+    assert_eq!(recorded(&lines), ["reset", one, two, two]);
+    // The third look is declined, and the fourth is not made.
+    let stops = "looks 1 0 0 0 0 0 0 0 0 0 0 0 0 0 0 1FFF 2000 0 0 0 0 0 0 0 1 0 0 0 0 0 0 0";
+    assert_eq!(recorded(&[stops, "read 10 1"]), [one, two, "read 10 1"]);
 }
 
 #[test]

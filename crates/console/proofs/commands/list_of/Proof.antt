@@ -32,6 +32,9 @@ number-at-requires c κs = search needs
 enum-known-number : tie.Need-enum-known-number Inv-loop μ-loop
 enum-known-number c = search needs
 
+cast-numbers : tie.Need-cast-numbers Inv-loop μ-loop
+cast-numbers c = search needs
+
 mul-numbers : tie.Need-mul-numbers Inv-loop μ-loop
 mul-numbers c = search needs
 
@@ -86,6 +89,7 @@ list-of-spec =
     returns
     number-at-requires
     enum-known-number
+    cast-numbers
     mul-numbers
     slice-write-numbers
     add-count
