@@ -10,6 +10,8 @@ enum { STORM = 64, LISTED = 64, ROOM = 1024 };
 /* The modules. */
 static struct panel calm;    /* size 8C, D 3, three keys held, nothing new */
 static struct panel small;   /* the same in size 22, two keys held */
+static struct panel seen;    /* as calm, two keys held, no special function key among them */
+static struct panel hidden;  /* the same, and every special function key held: all rows are hidden */
 static struct panel open;    /* size 8C, D 1, no key held */
 static struct panel full;    /* 15 codes wait, five keys held, every flag of a change set */
 static struct panel unsound; /* the same, failing the last test of soundness: all four marks */
@@ -17,6 +19,10 @@ static struct panel unsound; /* the same, failing the last test of soundness: al
 /* A calm look: the keys that are held stay closed, a special function key among them. */
 static const uint16_t calm_looks[][8] = {{0x0002, 0, 0, 0x0020, 0, 0, 0, 0x1000}};
 static const uint16_t small_looks[][8] = {{0x0001, 0x1000, 0, 0, 0, 0, 0, 0}};
+
+/* The same with every special function contact open, and with every one closed. */
+static const uint16_t seen_looks[][8] = {{0x0002, 0, 0, 0x0020, 0, 0, 0, 0}};
+static const uint16_t hidden_looks[][8] = {{0x1002, 0x1000, 0x1000, 0x1020, 0x1000, 0x1000, 0x1000, 0x1000}};
 
 /* Typing: beside those keys, row 2 column 4 and row 5 column 9 close and open again, bouncing as they do. */
 #define TYPED(one, other) {0x0002, 0, (one) << 4, 0x0020, 0, (other) << 9, 0, 0x1000}
@@ -28,8 +34,10 @@ static const uint16_t typing_looks[][8] = {
 /* The same over and over: a long block, and the looks of a session. */
 static uint16_t long_typing[LISTED][8];
 
-/* A storm: every contact random at every look. */
+/* A storm: every contact random at every look; the same with every special function contact open, and with every one closed. */
 static uint16_t storm_looks[STORM][8];
+static uint16_t seen_storm[STORM][8];
+static uint16_t hidden_storm[STORM][8];
 
 /* A burst: 16 keys at once, one more than the queue holds. */
 static const uint16_t burst_looks[][8] = {{0x0FFF, 0x000F, 0, 0, 0, 0, 0, 0}};
@@ -56,6 +64,10 @@ const struct measured cases[] = {
     LOOKS("look: calm", calm, calm_looks, 8, 0),
     LOOKS("look: typing", calm, typing_looks, 8, 0),
     LOOKS("look: storm", calm, storm_looks, 8, 0),
+    LOOKS("look: all SF open, calm", seen, seen_looks, 8, 0),
+    LOOKS("look: all SF open, storm", seen, seen_storm, 8, 0),
+    LOOKS("look: all SF closed, calm", hidden, hidden_looks, 8, 0),
+    LOOKS("look: all SF closed, storm", hidden, hidden_storm, 8, 0),
     LOOKS("look: burst of 16", open, burst_looks, 8, 0),
     LOOKS("look: size 22, calm", small, small_looks, 8, 0),
     BLOCKS("block: 1 look", calm, typing_looks, 16, 1 * 8, 0),
@@ -128,10 +140,9 @@ static struct panel sized(uint8_t size, uint8_t bounce)
     return panel;
 }
 
-/* The same after a look has been believed and all that came of it fetched and cleared. */
-static struct panel settled(uint8_t size, const uint16_t *samples)
+/* A module after a look has been believed and all that came of it fetched and cleared. */
+static struct panel settled(struct panel panel, const uint16_t *samples)
 {
-    struct panel panel = sized(size, 3);
     uint8_t codes[15], all = 3;
     gave(panel_look(&panel, samples, 8));
     gave(panel_look(&panel, samples, 8));
@@ -141,14 +152,17 @@ static struct panel settled(uint8_t size, const uint16_t *samples)
     return panel;
 }
 
-/* The storm's samples. */
+/* The samples of the storms. */
 static void make_storm(void)
 {
     unsigned look, row;
     chance_from(20240517u);
     for (look = 0; look < STORM; look++) {
-        for (row = 0; row < 8; row++)
+        for (row = 0; row < 8; row++) {
             storm_looks[look][row] = (uint16_t)(chance() >> 8 & 0x1FFF);
+            seen_storm[look][row] = storm_looks[look][row] & 0x0FFF;
+            hidden_storm[look][row] = storm_looks[look][row] | 0x1000;
+        }
     }
 }
 
@@ -166,8 +180,10 @@ static void make_typing(void)
 static void make_modules(void)
 {
     static const uint16_t five[8] = {0x0102, 0, 0, 0x0020, 0x0400, 0, 0, 0x1000};
-    calm = settled(0x8C, calm_looks[0]);
-    small = settled(0x22, small_looks[0]);
+    calm = settled(sized(0x8C, 3), calm_looks[0]);
+    small = settled(sized(0x22, 3), small_looks[0]);
+    seen = settled(sized(0x8C, 3), seen_looks[0]);
+    hidden = settled(seen, hidden_looks[0]);
     open = sized(0x8C, 1);
     full = open;
     gave(panel_look(&full, burst_looks[0], 8));

@@ -1,5 +1,5 @@
 /*
- * The key module in plain C, from document 01, and the packed list of document 02: what a firmware engineer would write over `struct panel`.
+ * The key module in plain C, from document 01, and what document 02 adds: what a firmware engineer would write over `struct panel`.
  * It judges and does the same as the archive.
  */
 #include "face.h"
@@ -128,14 +128,16 @@ static bool look_at(struct panel *panel, unsigned row, unsigned col, bool closed
     return true;
 }
 
-/* One row's sample: the columns of the size, then the special function key. */
+/* One row's sample: the columns of the size, then the special function key; that one alone if its contact is closed, which hides the row. */
 static inline bool look_along(struct panel *panel, unsigned row, uint16_t sample)
 {
-    unsigned col;
+    unsigned col, cols = cols_of(panel->size);
     bool changed = false;
-    for (col = 0; col < cols_of(panel->size); col++)
+    if (sample >> SF & 1)
+        return look_at(panel, row, SF, true);
+    for (col = 0; col < cols; col++)
         changed |= look_at(panel, row, col, sample >> col & 1);
-    changed |= look_at(panel, row, SF, sample >> SF & 1);
+    changed |= look_at(panel, row, SF, false);
     return changed;
 }
 

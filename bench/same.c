@@ -40,6 +40,9 @@ struct asked {
 /* How often each call gave each number. */
 static unsigned given[KINDS][10];
 
+/* Single looks that were done, those that hid a row of the size, and those that hid a key with a run of D or more, as a lowered D leaves it. */
+static unsigned looked, hid, lowered;
+
 /* A size, mostly one that is acceptable. */
 static uint8_t some_size(void)
 {
@@ -99,18 +102,25 @@ static void spoil(struct asked *asked, unsigned count)
     asked->samples[below(count)] |= (uint16_t)(0x2000 << below(3));
 }
 
-/* Samples: few contacts closed, or many. */
-static void some_samples(struct asked *asked)
+/* The rows whose special function contact is closed, a bit each. They stay so for some looks. */
+static unsigned direct;
+
+/* Samples of so many looks, and rubbish behind them: few contacts closed, or many. */
+static void some_samples(struct asked *asked, unsigned looks)
 {
-    unsigned row, few = below(2);
-    for (row = 0; row < ROOM; row++)
-        asked->samples[row] = (uint16_t)((few ? chance() & chance() & chance() : chance()) & 0x1FFF);
+    unsigned i, few = below(2);
+    for (i = 0; i < ROOM; i++) {
+        asked->samples[i] = (uint16_t)((few ? chance() & chance() & chance() : chance()) & 0x0FFF);
+        if (i % PANEL_ROWS == 0 && i < PANEL_ROWS * looks && once_in(5))
+            direct = once_in(2) ? 0 : below(256);
+        asked->samples[i] |= (uint16_t)((direct >> i % PANEL_ROWS & 1) << 12);
+    }
 }
 
 /* A look: seldom a high bit. */
 static void some_look(struct asked *asked)
 {
-    some_samples(asked);
+    some_samples(asked, 1);
     if (once_in(12))
         spoil(asked, 8);
     asked->count = some_count(8);
@@ -120,7 +130,7 @@ static void some_look(struct asked *asked)
 static void some_block(struct asked *asked)
 {
     unsigned bad, looks = below(once_in(10) ? 41 : 17);
-    some_samples(asked);
+    some_samples(asked, looks);
     for (bad = once_in(2) ? below(3) : 0; bad > 0 && looks > 0; bad--)
         spoil(asked, 8 * looks);
     asked->count = once_in(8) ? below(ROOM + 1) : 8 * looks;
@@ -134,6 +144,15 @@ static void some_bytes(struct asked *asked)
         asked->bytes[i] = (uint8_t)(once_in(2) ? some_size() : once_in(2) ? chance() : below(5));
     asked->first = some_address();
     asked->count = some_count(asked->call == WRITE ? 1 + below(2) : 1 + below(5));
+}
+
+/* A write of KBDBOUNCE, of a small number. */
+static void some_bounce(struct asked *asked)
+{
+    asked->call = WRITE;
+    asked->first = PANEL_KBDBOUNCE;
+    asked->bytes[0] = (uint8_t)below(4);
+    asked->count = 1;
 }
 
 /* A row and a column, now and then none of the panel's. */
@@ -157,6 +176,8 @@ static struct asked some_call(void)
         some_bytes(&asked);
     if (asked.call == HELD)
         some_key(&asked);
+    if (direct && once_in(12))
+        some_bounce(&asked);
     return asked;
 }
 
@@ -207,18 +228,39 @@ static void disturb(struct side *a, struct side *b)
     b->panel = a->panel;
 }
 
+/* A look that was done: what it hid. */
+static void note(const struct panel *was, const uint16_t *samples)
+{
+    unsigned row, col, keys = 0, late = 0;
+    for (row = 0; row < PANEL_ROWS; row++) {
+        for (col = 0; col < 12; col++) {
+            unsigned run = was->run[PANEL_COLS * row + col];
+            if (!in_size(was->size, row, col) || !(samples[row] >> 12 & 1))
+                continue;
+            keys++;
+            late += run > 0 && run >= was->bounce;
+        }
+    }
+    looked++;
+    hid += keys > 0;
+    lowered += late > 0;
+}
+
 /* Many calls on both; false at the first difference. */
 static bool compare(const struct face *one, const struct face *other)
 {
     static struct side a, b;
+    struct panel was;
     unsigned i;
     chance_from(20240517u);
+    direct = 0;
     a.face = one;
     b.face = other;
     a.panel = some_panel();
     for (i = 0; i < CALLS; i++) {
         struct asked asked = some_call();
         disturb(&a, &b);
+        was = a.panel;
         make(&a, &asked);
         make(&b, &asked);
         if (!agree(&a, &b)) {
@@ -226,6 +268,8 @@ static bool compare(const struct face *one, const struct face *other)
             return false;
         }
         given[asked.call][a.number]++;
+        if (asked.call == LOOK && a.number == PANEL_DONE)
+            note(&was, asked.samples);
     }
     return true;
 }
@@ -247,13 +291,20 @@ static bool all_given(void)
     return all;
 }
 
-/* Both levels of the plain C, and whether every number was met. */
+/* Says how often looks hid a row; false if fewer than a quarter did, or none under a lowered D. */
+static bool enough_hid(void)
+{
+    printf("  of %u single looks done %u hid a row, %u of them a key with a run of D or more\n", looked, hid, lowered);
+    return 4 * hid >= looked && lowered > 0;
+}
+
+/* Both levels of the plain C, and whether every number and enough hidden rows were met. */
 int main(void)
 {
     if (!compare(&proved, &plain_O2) || !compare(&proved, &plain_O3) || !compare_lists(&proved, &plain_O2) || !compare_lists(&proved, &plain_O3))
         return 1;
     printf("the same answers: %u random calls of the archive and of the plain C at -O2, and as many at -O3\n", CALLS);
-    if (!all_given())
+    if (!all_given() || !enough_hid())
         return 1;
     printf("the same answers: %u random lists, packed, unpacked and played, at each level\n", LISTS);
     return all_lists_given() ? 0 : 1;

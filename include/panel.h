@@ -41,8 +41,8 @@
  * This header's version, 10000 x first + 100 x second + third. The first rises when a caller must be changed or compiled again: another layout,
  * another meaning of a call. The second rises when something is added, the third when only words change. Header and archive are of one version.
  */
-#define PANEL_VERSION 20200
-#define PANEL_VERSION_TEXT "2.2.0"
+#define PANEL_VERSION 30000
+#define PANEL_VERSION_TEXT "3.0.0"
 
 /* On a call that gives a number: the compiler warns if nobody looks at it. */
 #if defined(__GNUC__)
@@ -72,7 +72,7 @@ enum panel_number {
 
 /* The registers, by the data sheet's names. Every other address is unknown. */
 enum panel_register {
-    PANEL_KBDBOUNCE = 0x02, /* R/W: looks that a contact must agree for; 0 counts as 1 */
+    PANEL_KBDBOUNCE = 0x02, /* R/W: samples in a row that a contact must agree for, one a look unless its row is hidden; 0 counts as 1 */
     PANEL_KBDSIZE = 0x03,   /* R/W: 16 x rows (2 to 8) + columns (2 to 12); a write restarts the keypad */
     PANEL_KBDRIS = 0x06,    /* R: the flags below */
     PANEL_KBDMIS = 0x07,    /* R: KBDRIS with the bits set in KBDMSK made 0 */
@@ -104,7 +104,7 @@ enum panel_code {
 /* How many there are. */
 enum panel_count {
     PANEL_ROWS = 8,
-    PANEL_COLS = 13, /* column 12 is the row's special function key */
+    PANEL_COLS = 13, /* column 12 is the row's special function key; its closed contact hides the others of the row */
     PANEL_KEYS = 104,
     PANEL_PLACES = 15, /* codes that can wait */
     PANEL_BYTES = 32,  /* the most that an access carries */
@@ -117,7 +117,7 @@ enum panel_count {
  */
 struct panel {
     bool held[104];    /* is the key held? Not if it is out of the size */
-    uint8_t run[104];  /* how many of its newest samples in a row are the opposite: at most 254, and 0 out of the size */
+    uint8_t run[104];  /* how many of its newest samples in a row are the opposite: at most 254, and 0 out of the size; a hidden key has no sample */
     uint8_t queue[15]; /* the codes that wait, of keys in the size, oldest first; unused places hold 0x7F */
     uint8_t count;     /* how many wait: at most 15 */
     uint8_t bounce;    /* KBDBOUNCE */
@@ -163,7 +163,9 @@ struct panel_place {
 
 /*
  * One look: a sample for each row, bit c set when column c is closed, bit 12 for the special function key.
- * Numbers: PANEL_UNSOUND, PANEL_NOT_EIGHT, PANEL_HIGH_BITS, else PANEL_DONE.
+ * A set bit 12 in a row of the size hides the rest of the row: the keys of columns 0 to 11 have no sample in this look, so they neither change nor forget.
+ * A key's last D samples are the last D that it had. The contact decides, not the key: the first look with bit 12 set hides already, the first without it shows.
+ * Numbers: PANEL_UNSOUND, PANEL_NOT_EIGHT, PANEL_HIGH_BITS (also for a hidden row), else PANEL_DONE.
  */
 PANEL_NUMBER uint8_t panel_look(struct panel *panel, const uint16_t *samples, uint64_t count);
 

@@ -1,7 +1,8 @@
 //! The key module, written from its rules (document 01) as plainly as they can be followed.
 //!
 //! Each key has the list of its samples since the restart, and changes when the last D of them
-//! say so. Held keys, waiting codes and read picture registers are ordinary collections. There
+//! say so. A closed SF contact hides its row (document 02, E3): the row's other keys have no sample
+//! in that look. Held keys, waiting codes and read picture registers are ordinary collections. There
 //! is no unsound state, so number 8 is never given. A block (document 02, E2) is its single looks.
 
 use crate::calls::Calls;
@@ -27,7 +28,8 @@ pub struct Module {
     bounce: u8,
     size: u8,
     mask: u8,
-    /// The samples of each key since the restart, oldest first, at the place of its press code.
+    /// The samples of each key since the restart, oldest first, at the place of its press code. A
+    /// look in which a key is hidden adds none to its list.
     samples: Vec<VecDeque<bool>>,
     held: BTreeSet<Key>,
     waiting: VecDeque<u8>,
@@ -52,6 +54,11 @@ fn row(key: Key) -> u8 {
 /// The column of a key.
 fn column(key: Key) -> u8 {
     key % 16
+}
+
+/// Whether a key's contact is closed in a look.
+fn closed(key: Key, list: &[u16]) -> bool {
+    list[usize::from(row(key))] >> column(key) & 1 == 1
 }
 
 /// Whether the register at the address can be read.
@@ -104,8 +111,9 @@ impl Calls for Module {
     fn look(&mut self, list: &[u16]) -> u8 {
         let number = judge_look(list);
         if number == 0 {
-            self.remember(list);
-            self.take(&self.changes());
+            let seen = self.seen(list);
+            self.remember(list, &seen);
+            self.take(&self.changes(&seen));
         }
         number
     }
@@ -200,12 +208,19 @@ impl Module {
         row(key) < self.size / 16 && (column(key) < self.size % 16 || column(key) == SF)
     }
 
-    /// Adds this look's sample to the list of each key. Keys out of the size count as open.
-    fn remember(&mut self, list: &[u16]) {
-        for key in keys() {
-            let bit = list[usize::from(row(key))] >> column(key) & 1;
-            let closed = bit == 1 && self.in_size(key);
-            let samples = &mut self.samples[usize::from(key)];
+    /// The keys that have a sample in this look, by row, then by column. An SF contact in the size
+    /// that is closed hides the other keys of its row.
+    fn seen(&self, list: &[u16]) -> Vec<Key> {
+        let hides = |sf: Key| self.in_size(sf) && closed(sf, list);
+        keys().filter(|key| column(*key) == SF || !hides(16 * row(*key) + SF)).collect()
+    }
+
+    /// Adds this look's sample to the list of each key that has one. Keys out of the size count as
+    /// open.
+    fn remember(&mut self, list: &[u16], seen: &[Key]) {
+        for key in seen {
+            let closed = closed(*key, list) && self.in_size(*key);
+            let samples = &mut self.samples[usize::from(*key)];
             samples.push_back(closed);
             if samples.len() > REMEMBERED {
                 samples.pop_front();
@@ -218,7 +233,7 @@ impl Module {
         usize::from(self.bounce.max(1))
     }
 
-    /// Whether a key's last D samples exist and are all the opposite of what it was.
+    /// Whether a key has D samples and the last D are all the opposite of what it was.
     fn changes_now(&self, key: Key) -> bool {
         let samples = &self.samples[usize::from(key)];
         let was = self.held.contains(&key);
@@ -226,9 +241,11 @@ impl Module {
         samples.len() >= needed && samples.iter().rev().take(needed).all(|closed| *closed != was)
     }
 
-    /// The keys that change at this look, in the order in which they are taken.
-    fn changes(&self) -> Vec<Key> {
-        keys().filter(|key| self.in_size(*key) && self.changes_now(*key)).collect()
+    /// The keys that change at this look, in the order in which they are taken. A key that has no
+    /// sample in it is not among them.
+    fn changes(&self, seen: &[Key]) -> Vec<Key> {
+        let changes = |key: &Key| self.in_size(*key) && self.changes_now(*key);
+        seen.iter().copied().filter(changes).collect()
     }
 
     /// Takes the changes of one look and sets the flags.

@@ -2,11 +2,12 @@
 //!
 //! A script is a row of stretches of 50 to 400 lines. Each has a regime: typing, fingers on the
 //! panel, a storm of changes, picture reading, patience under a long bounce, settings that churn,
-//! registers at random, calls that are declined, lists that are carried, blocks of looks. The contacts
-//! go on from one stretch to the next.
+//! registers at random, calls that are declined, lists that are carried, blocks of looks, direct keys
+//! that hide their rows. The contacts go on from one stretch to the next.
 
 mod blocks;
 mod carry;
+mod direct;
 mod fingers;
 mod lists;
 
@@ -50,7 +51,7 @@ const BAD_SIZES: [u8; 10] = [0x1C, 0x2D, 0x92, 0x81, 0x21, 0x12, 0x00, 0xFF, 0x9
 type Regime = (fn(&mut Maker), fn(&mut Maker));
 
 /// The regimes; those that are there twice are taken twice as often.
-const REGIMES: [Regime; 16] = [
+const REGIMES: [Regime; 18] = [
     (Maker::begin_typing, Maker::type_keys),
     (Maker::begin_typing, Maker::type_keys),
     (Maker::begin_fingers, Maker::move_fingers),
@@ -67,13 +68,15 @@ const REGIMES: [Regime; 16] = [
     (Maker::begin_pictures, Maker::carry),
     (Maker::begin_typing, Maker::take_blocks),
     (Maker::begin_storm, Maker::take_blocks),
+    (Maker::begin_direct, Maker::hide_rows),
+    (Maker::begin_direct, Maker::hide_rows),
 ];
 
 /// Ways to quit.
 const QUITS: [&str; 6] = ["quit", "quit", "quit\r", " quit", "\tquit \t", " quit \r"];
 
 /// A script of that many lines. Of eight seeds one waits as long as can be in the script's last
-/// tenth, and one quits there.
+/// tenth, with a direct key down, and one quits there.
 pub fn script(seed: u64, count: usize) -> Vec<Line> {
     let mut maker = Maker::new(seed);
     while maker.lines.len() < count {
@@ -81,10 +84,10 @@ pub fn script(seed: u64, count: usize) -> Vec<Line> {
     }
     maker.lines.truncate(count);
     match seed % 8 {
-        2 => maker.put_late("wait 65535"),
+        2 => maker.put_late(&["press 0 SF", "wait 65535"]),
         3 => {
             let quit = maker.chance.pick(&QUITS);
-            maker.put_late(quit);
+            maker.put_late(&[quit]);
         }
         _ => {}
     }
@@ -124,18 +127,19 @@ impl Maker {
         }
     }
 
-    /// Puts a line in the place of another in the script's last tenth, if it has ten lines.
-    fn put_late(&mut self, line: &str) {
-        let count = self.lines.len();
-        if count >= 10 {
-            let place = self.chance.between(count - count / 10, count - 1);
-            self.lines[place] = line.into();
+    /// Puts lines in the place of others in the script's last tenth, if they fit there.
+    fn put_late(&mut self, lines: &[&str]) {
+        let last = self.lines.len() / 10;
+        if last >= lines.len() {
+            let first = self.lines.len() - last + self.chance.between(0, last - lines.len());
+            let places = &mut self.lines[first..first + lines.len()];
+            places.iter_mut().zip(lines).for_each(|(place, line)| *place = (*line).into());
         }
     }
 
     /// Now and then a line that has nothing to do with the regime.
     fn aside(&mut self) {
-        if self.chance.one_in(20) {
+        if self.chance.one_in(16) {
             let line = self.malformed.line(&mut self.chance);
             self.lines.push(line);
         }
@@ -511,16 +515,20 @@ impl Maker {
         }
     }
 
-    /// Turns the contacts of many keys.
+    /// Turns the contacts of many keys. Direct keys seldom go down, and soon up again.
     fn flip_many(&mut self) {
         let wild = self.chance.one_in(2);
         for row in 0..8 {
-            let mut flips = self.chance.bits() & self.chance.bits() & 0x1FFF;
+            let mut flips = self.chance.bits() & self.chance.bits() & 0x0FFF;
             if wild && self.chance.one_in(2) {
                 flips &= self.chance.bits() & self.chance.bits();
             }
             if self.chance.one_in(3) {
                 self.closed[row] ^= flips as u16;
+            }
+            let down = self.closed[row] >> 12 == 1;
+            if self.chance.one_in(if down { 4 } else { 32 }) {
+                self.closed[row] ^= 1 << 12;
             }
         }
     }
@@ -548,6 +556,9 @@ impl Maker {
             let count = self.chance.between(1, 4 - n);
             let count = if self.chance.one_in(2) { 1 } else { count };
             self.read(0x0B + n as u8, count);
+            if self.chance.one_in(8) {
+                self.look();
+            }
         }
         self.read(0x06, 1);
         match self.chance.below(12) {
@@ -561,9 +572,12 @@ impl Maker {
 
     /// Sets a long bounce, and lets contacts stand still just as long.
     fn begin_patience(&mut self) {
-        let bounce: usize = self.chance.pick(&[255, 255, 254, 128, 60, 20, 12, 7]);
+        let bounce: usize = self.chance.pick(&[255, 255, 255, 254, 128, 60, 20, 12, 7]);
         let size = self.good_size();
         self.write(0x02, &[bounce as u8, size]);
+        if !self.chance.one_in(4) {
+            self.open_direct();
+        }
         self.touch();
         self.bouncing = [0; 8];
         match self.chance.below(6) {
@@ -576,6 +590,10 @@ impl Maker {
             _ => (1..bounce).for_each(|_| self.look()),
         }
         self.read(0x10, 1);
+        if self.chance.one_in(3) {
+            self.hide_all();
+            self.read(0x10, 1);
+        }
         self.look();
         self.read(0x10, 1);
     }

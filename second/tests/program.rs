@@ -55,21 +55,23 @@ fn compare_finds_itself_the_same() {
 
 #[test]
 fn compare_shows_a_difference_cut_down() {
-    // A program that gives KBDBOUNCE 1 as 0 if KBDSIZE 8C is read with it.
-    let wrong = "\"$0\" | sed 's/^0 01 8C$/0 00 8C/'";
-    let words = ["compare", "9", "5000", "bash", "-o", "pipefail", "-c", wrong, SECOND];
+    // A program that takes KBDBOUNCE 1 as 2 if KBDSIZE 8C is written with it.
+    let wrong = r#"sed 's/^write 02 01 8C$/write 02 02 8C/' | "$0""#;
+    let words = ["compare", "9", "20000", "bash", "-o", "pipefail", "-c", wrong, SECOND];
     let output = run(&words);
     assert_eq!(output.status.code(), Some(1));
     let text = text(&output);
-    let (before, short) = text.split_once("cut down to 3 lines:\n").unwrap();
+    let (before, short) = text.split_once("cut down to ").unwrap();
     assert!(before.starts_with("different: seed 9, line "));
+    // How many lines, the script with that write and what shows it, and the difference.
     let lines: Vec<&str> = short.lines().collect();
-    assert_eq!(lines.len(), 6);
-    assert!(lines[0].contains("write"));
-    assert!(lines[1].contains("write"));
-    assert!(lines[2].contains("read"));
-    assert!(lines[4].starts_with("second module: 0 01 8C"));
-    assert!(lines[5].starts_with("the program:   0 00 8C"));
+    let (script, shown) = lines[1..].split_at(lines.len() - 4);
+    assert_eq!(lines[0], format!("{} lines:", script.len()));
+    assert!((2..6).contains(&script.len()), "{text}");
+    assert!(script.contains(&"write 02 01 8C"), "{text}");
+    assert_eq!(shown[0], format!("command:       {}", script.last().unwrap()));
+    assert!(shown[1].starts_with("second module: 0 "));
+    assert!(shown[2].starts_with("the program:   0 "));
 }
 
 #[test]

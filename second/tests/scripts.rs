@@ -1,9 +1,12 @@
 //! What the random scripts reach.
 
+mod watched;
+
 use second::console::{Console, LONGEST};
 use second::malformed::{BYTES, ODD, WRONG};
 use second::script::{script, Line};
 use std::collections::{HashMap, HashSet};
+use watched::{counts, Kind};
 
 /// The answers to a script.
 fn answers(script: &[Line]) -> Vec<String> {
@@ -207,4 +210,26 @@ fn the_longest_lists_are_carried() {
     }
     let longest = answers(&lines).iter().map(String::len).max();
     assert!(longest > Some(250_000));
+}
+
+#[test]
+fn rows_are_hidden_in_a_quarter_of_the_looks() {
+    for seed in 1..4 {
+        let counts = counts(&script(seed, 60_000));
+        assert!(4 * counts[&Kind::Hiding] >= counts[&Kind::Done], "seed {seed}: {counts:?}");
+        // Looks without a closed SF contact stay frequent.
+        assert!(5 * counts[&Kind::Plain] >= counts[&Kind::Done], "seed {seed}: {counts:?}");
+        for (kind, least) in [
+            (Kind::HidingLong, 15_000),
+            (Kind::HidingAll, 30),
+            (Kind::Outside, 1000),
+            (Kind::Settling, 2000),
+            (Kind::Changing, 3000),
+            (Kind::Due, 150),
+            (Kind::Across, 150),
+        ] {
+            let times = counts[&kind];
+            assert!(times >= least, "{kind:?} {times} times with seed {seed}");
+        }
+    }
 }

@@ -76,6 +76,7 @@ int main(void)
     declined();
     states();
     blocks();
+    hidden();
     bools();
     routine();
     carry();

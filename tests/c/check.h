@@ -45,6 +45,7 @@ void accesses(void);
 void declined(void);
 void states(void);
 void blocks(void);
+void hidden(void);
 void bools(void);
 void routine(void);
 void carry(void);

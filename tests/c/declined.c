@@ -7,8 +7,8 @@ static struct panel busy(void)
     struct panel panel = after_reset();
     uint8_t byte;
     SAME(WRITE(&panel, PANEL_KBDBOUNCE, 1, 0x8C), 0);
-    SAME(LOOK(&panel, 0x1FFF, 0x0007, 0, 0, 0, 0, 0, 0), 0);
-    SAME(LOOK(&panel, 0x1FFE, 0x0007, 0, 0, 0, 0, 0, 0), 0);
+    SAME(LOOK(&panel, 0x0FFF, 0x0007, 0x1000, 0, 0, 0, 0, 0), 0);
+    SAME(LOOK(&panel, 0x0FFE, 0x0007, 0x1000, 0, 0, 0, 0, 0), 0);
     SAME(WRITE(&panel, PANEL_KBDBOUNCE, 9), 0);
     SAME(LOOK(&panel, 0x0FFE, 0, 0, 0, 0, 0, 0, 0x1000), 0);
     SAME(panel_read(&panel, PANEL_KBDCODE2, &byte, 1), 0);

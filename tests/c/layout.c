@@ -149,15 +149,13 @@ static void places_seen(void)
     int k;
     image_after_reset();
     SAME(WRITE(&panel, PANEL_KBDBOUNCE, 1, 0x8C), 0);
-    SAME(LOOK(&panel, 0x1FFF, 0x0007, 0, 0, 0, 0, 0, 0), 0);
+    SAME(LOOK(&panel, 0x0FFF, 0x000F, 0, 0, 0, 0, 0, 0), 0);
     image[BOUNCE_AT] = 1;
     image[SIZE_AT] = 0x8C;
     for (k = 0; k < 16; k++)
-        image[HELD_AT + k] = 1;
-    for (k = 0; k < 13; k++)
-        image[QUEUE_AT + k] = (uint8_t)k;
-    image[QUEUE_AT + 13] = 0x10;
-    image[QUEUE_AT + 14] = 0x11;
+        image[HELD_AT + (k < 12 ? k : k + 1)] = 1;
+    for (k = 0; k < 15; k++)
+        image[QUEUE_AT + k] = (uint8_t)(k < 12 ? k : k + 4);
     image[COUNT_AT] = 15;
     image[RSINT_AT] = 1;
     image[RELINT_AT] = 1;

@@ -47,6 +47,11 @@ const struct state sound[] = {
     {"15 wait, no RELINT", {TO(count, 15), PLACES(15, 0x00)}},
     {"a key held, nothing queued", {HELD_KEY(0, 0)}},
     {"a run of 5, D 0", {RUN_OF(0, 0, 5), TO(bounce, 0)}},
+    {"runs of 254, special function key open", {RUN_OF(0, 0, 254), HELD_KEY(0, 1), RUN_OF(0, 1, 254), RUN_OF(0, 12, 254)}},
+    {"runs of 254, special function key held", {RUN_OF(0, 0, 254), HELD_KEY(0, 1), RUN_OF(0, 1, 254), HELD_KEY(0, 12), RUN_OF(0, 12, 254)}},
+    {"a run of 254, special function key held", {RUN_OF(0, 0, 254), HELD_KEY(0, 1), HELD_KEY(0, 12)}},
+    {"runs of 1 and 2, special function key held with 1", {RUN_OF(0, 0, 1), HELD_KEY(0, 1), RUN_OF(0, 1, 2), HELD_KEY(0, 12), RUN_OF(0, 12, 1)}},
+    {"special function key held with a run of 254", {HELD_KEY(0, 0), HELD_KEY(0, 12), RUN_OF(0, 12, 254)}},
 };
 
 const size_t unsound_count = sizeof unsound / sizeof unsound[0];

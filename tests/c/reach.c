@@ -1,6 +1,7 @@
 /*
  * Every sound state is reached from reset by calls alone, byte for byte; an unsound one is not, by the same calls.
- * While KBDBOUNCE is 1 no key has a run, and a look makes the keys what its samples say: so codes, keys and flags come first, then marks, runs and settings.
+ * While KBDBOUNCE is 1 no key has a run, and a look makes the keys what its samples say, but for those that a closed special function contact hides:
+ * so codes, keys and flags come first, then marks, runs and settings. Where any key will do, it is row 0's special function key: no other changes with it.
  */
 #include "made.h"
 #include "modules.h"
@@ -8,8 +9,8 @@
 int printf(const char *format, ...);
 int memcmp(const void *a, const void *b, size_t count);
 
-/* How many random states, and the seed that they come from. */
-enum { RANDOM = 5000, SEED = 77 };
+/* How many random states, and the seed that they come from; the special function column, and the longest run. */
+enum { RANDOM = 5000, SEED = 77, SF = 12, LONGEST = 254 };
 
 /* A module on its way: the samples of the last look, and the first number other than 0 that a call gave. */
 struct way {
@@ -51,7 +52,7 @@ static void read_bytes(struct way *way, unsigned first, size_t count)
     gave(way, panel_read(&way->panel, (uint8_t)first, buffer, count));
 }
 
-/* Reset, D 1 and the size; then key 0 the other way until 15 codes wait. */
+/* Reset, D 1 and the size; then row 0's special function key the other way until 15 codes wait, and once more: all keys are open. */
 static void begin(struct way *way, uint8_t size)
 {
     unsigned i;
@@ -60,19 +61,21 @@ static void begin(struct way *way, uint8_t size)
     way->declined = panel_reset(&way->panel);
     write_byte(way, PANEL_KBDBOUNCE, 1);
     write_byte(way, PANEL_KBDSIZE, size);
-    for (i = 0; i < PANEL_PLACES; i++)
-        look_other(way, 0, 0);
+    for (i = 0; i < PANEL_PLACES + 1; i++)
+        look_other(way, 0, SF);
 }
 
-/* One code becomes the newest of the 15. If its key is that way already, it goes back first, and that change is dropped. */
+/* One code becomes the newest of the 15. Its key is pressed and let go, with all others open; the change that isn't wanted finds 15 waiting, and is dropped. */
 static void put_code(struct way *way, uint8_t code)
 {
     unsigned row = code % PANEL_RELEASED / 16, col = code % 16;
-    bool closed = way->samples[row] >> col & 1, press = code < PANEL_RELEASED;
-    if (closed == press)
+    bool press = code < PANEL_RELEASED;
+    if (!press)
         look_other(way, row, col);
     read_bytes(way, PANEL_EVTCODE, 1);
     look_other(way, row, col);
+    if (press)
+        look_other(way, row, col);
 }
 
 /* The codes wanted become the newest that wait. */
@@ -83,24 +86,29 @@ static void put_codes(struct way *way, const struct panel *wanted)
         put_code(way, wanted->queue[i]);
 }
 
-/* The samples that close the keys held. */
-static void close_held(struct way *way, const struct panel *wanted)
+/* The samples that close the keys held, of the first so many columns. */
+static void close_held(struct way *way, const struct panel *wanted, unsigned cols)
 {
     unsigned row, col;
     for (row = 0; row < PANEL_ROWS; row++) {
         way->samples[row] = 0;
-        for (col = 0; col < PANEL_COLS; col++)
+        for (col = 0; col < cols; col++)
             way->samples[row] |= (uint16_t)(wanted->held[PANEL_COLS * row + col] << col);
     }
 }
 
-/* The keys wanted are held; key 0 the other way and back drops two codes, sets the three flags and forgets the marks. */
+/*
+ * The keys wanted are held: first those of the matrix, then the special function keys, which hide their rows and leave them as they are.
+ * Row 0's the other way and back drops two codes, sets the three flags and forgets the marks.
+ */
 static void put_keys(struct way *way, const struct panel *wanted)
 {
-    close_held(way, wanted);
+    close_held(way, wanted, SF);
     look(way);
-    look_other(way, 0, 0);
-    look_other(way, 0, 0);
+    close_held(way, wanted, PANEL_COLS);
+    look(way);
+    look_other(way, 0, SF);
+    look_other(way, 0, SF);
 }
 
 /* The flags wanted, from all three set. A read of the whole picture clears RSINT alone; a change after KBDIC sets it alone. */
@@ -109,11 +117,11 @@ static void put_flags(struct way *way, const struct panel *wanted)
     if (!wanted->rsint && wanted->rklint)
         read_bytes(way, PANEL_KBDCODE0, 4);
     if (wanted->rsint && !wanted->rklint)
-        look_other(way, 0, 0);
+        look_other(way, 0, SF);
     if (!wanted->rklint)
         write_byte(way, PANEL_KBDIC, 1);
     if (wanted->rsint && !wanted->rklint)
-        look_other(way, 0, 0);
+        look_other(way, 0, SF);
     if (!wanted->relint)
         write_byte(way, PANEL_KBDIC, 2);
 }
@@ -130,26 +138,43 @@ static void fetch_and_mark(struct way *way, const struct panel *wanted)
     }
 }
 
-/* The longest run wanted. */
-static unsigned longest_run(const struct panel *wanted)
+/*
+ * Does a special function contact read the opposite, with so many looks left, this one included? If its key is open, in as many of the last as its run has.
+ * If it is held, in the last 255, so that its row is seen in 254 of them: the one before its run begins hides the row, and makes the run so far 0.
+ */
+static bool direct_opposite(const struct panel *wanted, unsigned key, unsigned left)
 {
-    unsigned key, longest = 0;
-    for (key = 0; key < PANEL_KEYS; key++) {
-        if (wanted->run[key] > longest)
-            longest = wanted->run[key];
-    }
-    return longest;
+    unsigned run = wanted->run[key];
+    return wanted->held[key] ? left <= LONGEST + 1 && left != run + 1 : left <= run;
 }
 
-/* The runs wanted: with D 255 a key reads the opposite in as many of the last looks. */
+/* How many of the looks left see the row of this special function key; while it is held and closed at first, some number above 254. */
+static unsigned seeing(const struct panel *wanted, unsigned key, unsigned left)
+{
+    unsigned run = wanted->run[key];
+    if (wanted->held[key])
+        return left > run ? left - 1 : left;
+    return left > run ? left - run : 0;
+}
+
+/* Does a contact read the opposite? One of the matrix in as many of the last looks that see its row as its run has. */
+static bool opposite(const struct panel *wanted, unsigned key, unsigned left)
+{
+    unsigned direct = key / PANEL_COLS * PANEL_COLS + SF;
+    if (key == direct)
+        return direct_opposite(wanted, key, left);
+    return seeing(wanted, direct, left) <= wanted->run[key];
+}
+
+/* The runs wanted. With D 255 no key changes, since none has more than 254 opposite samples in a row. */
 static void put_runs(struct way *way, const struct panel *wanted)
 {
     unsigned left, key;
     write_byte(way, PANEL_KBDBOUNCE, 255);
-    for (left = longest_run(wanted); left > 0; left--) {
-        close_held(way, wanted);
+    for (left = 2 * LONGEST; left > 0; left--) {
+        close_held(way, wanted, PANEL_COLS);
         for (key = 0; key < PANEL_KEYS; key++) {
-            if (wanted->run[key] >= left)
+            if (opposite(wanted, key, left))
                 way->samples[key / PANEL_COLS] ^= (uint16_t)(1u << key % PANEL_COLS);
         }
         look(way);

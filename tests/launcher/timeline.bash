@@ -24,7 +24,7 @@ see_settling() {
 
 # Lines may end as on other systems.
 see_returns() {
-    for name in resize block; do
+    for name in resize block hidden; do
         sed 's/$/\r/' "tests/timeline/$name.txt" >"$work/returns"
         gives 0 ./panel --timeline "$work/returns"
         cmp -s "$work/out" "tests/timeline/$name.picture" || failed "$name.txt with carriage returns is drawn otherwise"

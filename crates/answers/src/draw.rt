@@ -4,6 +4,7 @@ use keys::COLS;
 use keys::Col;
 use keys::KEYS;
 use keys::Row;
+use keys::SPECIAL;
 use state::Module;
 use state::PLACES;
 use text::page;
@@ -12,9 +13,6 @@ ghost use Prim.Native.Nat.{_≤_};
 
 // The line above the keys: five places, and three for each column's label.
 const HEAD: [u8; 41] = *b"row    0  1  2  3  4  5  6  7  8  9 10 11";
-
-// The column of a row's special function key.
-const SPECIAL: u8 = COLS - 1;
 
 // The sign of a key: held or open; a sign of its own while its contact reads otherwise and settles.
 fn sign(held: bool, run: u8) -> u8 {

@@ -10,9 +10,9 @@ pub fn commands(p: Page) -> Page
     out::text(
         p,
         b"reset              the panel after reset; the contacts stay as they are\n\
-        look S0 S1 ..      one look: a 16-bit sample for each row; bit c is column c, bit 12 the SF key\n\
+        look S0 S1 ..      one look: a 16-bit sample for each row; bit c is column c, bit 12 the SF key, which hides its row\n\
         looks S0 S1 ..     a block of looks, eight samples each, up to the first declined; tells how many were done\n\
-        press ROW COL      a finger closes this contact, for as many looks as make the panel believe it\n\
+        press ROW COL      a finger closes this contact, for as many looks as KBDBOUNCE says\n\
         release ROW COL    the finger opens it, for as many looks\n\
         wait N             N looks with the contacts as they are\n\
         write AA B0 B1 ..  a write access: bytes to the registers from address AA on\n\

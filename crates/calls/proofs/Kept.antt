@@ -34,8 +34,8 @@ use Rattle.state.proofs.Laws.{put-room, put-full}
 use Rattle.picture.specs.Picture.{allRead}
 use Rattle.sound.specs.Sound.{keySound, codesSound, restUnused, sound}
 use Rattle.sound.proofs.Laws.{sound-facts, facts-sound, sound-out}
-use Rattle.sound.proofs.Exactly.{said-key}
-use Rattle.scan.specs.Scan.{contactAt, changesBelow, changes, contacts, noticed, looked}
+use Rattle.sound.proofs.Exactly.{run-said, said-key}
+use Rattle.scan.specs.Scan.{sight, contactAt, changesBelow, changes, contacts, noticed, looked}
 use Rattle.scan.specs.Walk.{Altered, whole, Still}
 use Rattle.scan.proofs.Laws.{out-rests, looked-noticed}
 use Rattle.calls.specs.Walk.{Judged}
@@ -112,7 +112,8 @@ module _ (m : Module) (s : List ℕ) (ok : sound m ≡ true) where
   key-kept low k h =
       said-key (m .size) k (contactAt m s k .held) (contactAt m s k .run)
       (λ e. let o = out k h e in (ap (λ (x : Contact). x .held) o, ap (λ (x : Contact). x .run) o))
-      (step-low (getD (m .held) k false) (getD (m .run) k 0) (sample s (m .size) k) (m .bounce) low)
+      (step-low (getD (m .held) k false) (getD (m .run) k 0) (sight s (m .size) k) (m .bounce) low
+      (run-said (m .size) k (getD (m .held) k false) (getD (m .run) k 0) (sound-facts m ok .keys k h)))
 
   -- a key that changes is in the size
   changed-in : (k : ℕ) → k < 104 → contactAt m s k .changed ≡ true → keyIn (m .size) k ≡ true

@@ -3,7 +3,16 @@
 --    changes-run      the rule, said by the run
 --    run-enough       one step from a history's held and run is held and run of the longer history
 --    carried-held     so the step, carried over any history with D varying at every look, is the rule
---    step-low         a step's run is at most 254, whatever the run was
+--    hidden-keeps     at a look without a sample nothing changes
+--    step-rests       an open contact with no run stays so if it is hidden or reads open
+--    look-enough      run-enough for a look at which there may be no sample
+--    through l        a contact carried through looks at which there may be no sample
+--    through-existing, through-rule    that is the step carried over the samples that exist, and so the rule over these
+--    through-changes  it changes at a look exactly when its sample exists there and its last D existing ones are all the opposite
+--    through-low      its run is at most 254
+--    step-changed     a contact that changed is held as the look shows it
+--    sight-opposite, sight-turned, sight-kept    a change at such a look is to the opposite, and how the contact is held afterwards
+--    sample-low, step-low    a step's run is at most 254, whatever the run was
 --    run-low          no run is above 254, if every KBDBOUNCE is a byte
 --    changes-to       a contact changes to what its newest sample is
 --    other            a sample that isn't as held is the opposite
@@ -13,16 +22,18 @@
 use Prim.Native.Nat.{ℕ, zero, suc, _+_, _≤_, _<_}
 use native.Mathlib.Numerals.{add-one}
 use native.Mathlib.Omega.{arith}
-use mathlib.Core.Path.{_≡_, refl, sym, _∙_}
+use mathlib.Core.Path.{_≡_, refl, sym, ap, _∙_}
 use mathlib.Core.Bool.{Bool, true, false, not, _&&_, cond, Bool·beq, and-false}
 use mathlib.Core.List.{List, [], _∷_}
 use lib.ListN.{length, take}
 use borrow.Author.Tests.{lt-leb, le-leb, leb-true, leb-false}
 use lib.Dec.{leb, leb·zero, leb·suc-zero, leb·suc-suc}
 use Rattle.words.specs.Words.{all}
-use Rattle.words.proofs.Laws.{true-false, all-first}
+use Rattle.words.proofs.Laws.{true-false, all-first, all-rest}
 use Rattle.contact.specs.declared.Contact.{Contact}
-use Rattle.contact.specs.Contact.{looks, opposite, changes, Seen, samples, heldAfter, runOf, stepped}
+use Rattle.contact.specs.declared.Sight.{Sight}
+use Rattle.contact.specs.declared.Sight.the-variants.{Hidden, Open, Closed}
+use Rattle.contact.specs.Contact.{looks, opposite, changes, Seen, samples, heldAfter, runOf, sampled, stepped, sightOf, Look, exists, isClosed, existing}
 
 -- the n newest samples exist and are all the opposite exactly when the run is at least n
 by-run : (held : Bool) (n : ℕ) (ss : List Bool) → (leb n (length ss) && all (opposite held) (take n ss)) ≡ leb n (runOf held ss)
@@ -48,11 +59,11 @@ at-least-one d = lt-leb (looks d) 0 (omega arith)
 ruled : ℕ → Bool → List Bool → Contact
 ruled d held ss = record { held = cond (changes d held ss) (not held) held; run = runOf (cond (changes d held ss) (not held) held) ss; changed = changes d held ss }
 
-step-ruled : (d : ℕ) (held s : Bool) (ss : List Bool) → stepped held (runOf held ss) s d ≡ ruled d held (s ∷ ss)
-unfolding stepped runOf ruled opposite
+step-ruled : (d : ℕ) (held s : Bool) (ss : List Bool) → sampled held (runOf held ss) s d ≡ ruled d held (s ∷ ss)
+unfolding sampled runOf ruled opposite
 step-ruled d held s ss = go held s (leb (looks d) (runOf held ss + 1)) refl
   where
-    go : (held s b : Bool) → leb (looks d) (runOf held ss + 1) ≡ b → stepped held (runOf held ss) s d ≡ ruled d held (s ∷ ss)
+    go : (held s b : Bool) → leb (looks d) (runOf held ss + 1) ≡ b → sampled held (runOf held ss) s d ≡ ruled d held (s ∷ ss)
     go true true b e = rw (changes-run d true (true ∷ ss), at-least-one d) refl
     go false false b e = rw (changes-run d false (false ∷ ss), at-least-one d) refl
     go true false true e = rw (changes-run d true (false ∷ ss), e) refl
@@ -61,7 +72,7 @@ step-ruled d held s ss = go held s (leb (looks d) (runOf held ss + 1)) refl
     go false true false e = rw (changes-run d false (true ∷ ss), e) refl
 
 -- what is held and the run are all that has to be remembered
-pub run-enough : (x : Seen) (h : List Seen) → stepped (heldAfter h) (runOf (heldAfter h) (samples h)) (x .closed) (x .bounce)
+pub run-enough : (x : Seen) (h : List Seen) → sampled (heldAfter h) (runOf (heldAfter h) (samples h)) (x .closed) (x .bounce)
     ≡ record { held = heldAfter (x ∷ h); run = runOf (heldAfter (x ∷ h)) (samples (x ∷ h)); changed = changes (x .bounce) (heldAfter h) (samples (x ∷ h)) }
 unfolding heldAfter samples ruled
 run-enough x h = step-ruled (x .bounce) (heldAfter h) (x .closed) (samples h)
@@ -69,16 +80,80 @@ run-enough x h = step-ruled (x .bounce) (heldAfter h) (x .closed) (samples h)
 -- a contact carried from look to look by the step
 unfoldable pub carried : List Seen → Contact
 carried [] = record { held = false; run = 0; changed = false }
-carried (x ∷ h) = stepped (carried h .held) (carried h .run) (x .closed) (x .bounce)
+carried (x ∷ h) = sampled (carried h .held) (carried h .run) (x .closed) (x .bounce)
 
 pub carried-held : (h : List Seen) → (carried h .held ≡ heldAfter h) × (carried h .run ≡ runOf (heldAfter h) (samples h))
 unfolding carried heldAfter samples runOf
 carried-held [] = (refl, refl)
 carried-held (x ∷ h) = let i = carried-held h in rw (i .0, i .1, run-enough x h) (refl, refl)
 
-pub step-low : (held : Bool) (run : ℕ) (s : Bool) (d : ℕ) → d ≤ 255 → stepped held run s d .run ≤ 254
-unfolding stepped looks
-step-low held run s d h = go (opposite held s) (leb (looks d) (run + 1)) refl
+-- ---- looks at which there may be no sample
+pub hidden-keeps : (held : Bool) (run d : ℕ) → stepped held run Hidden d ≡ record { held = held; run = run; changed = false }
+unfolding stepped
+hidden-keeps held run d = refl
+
+-- a history, with the newest sample if there is one
+abbrev pub seen : Bool → Seen → List Seen → List Seen
+seen hidden x h = cond hidden h (x ∷ h)
+
+-- does the contact change at that look?
+abbrev pub turns : Bool → Seen → List Seen → Bool
+turns hidden x h = cond hidden false (changes (x .bounce) (heldAfter h) (samples (seen hidden x h)))
+
+pub step-rests : (b : Bool) (d : ℕ) → stepped false 0 (sightOf b false) d ≡ record { held = false; run = 0; changed = false }
+unfolding stepped sightOf sampled opposite
+step-rests true d = refl
+step-rests false d = refl
+
+step-sample : (held : Bool) (run : ℕ) (s : Bool) (d : ℕ) → stepped held run (sightOf false s) d ≡ sampled held run s d
+unfolding stepped sightOf
+step-sample held run true d = refl
+step-sample held run false d = refl
+
+pub look-enough : (b : Bool) (x : Seen) (h : List Seen) → stepped (heldAfter h) (runOf (heldAfter h) (samples h)) (sightOf b (x .closed)) (x .bounce)
+    ≡ record { held = heldAfter (seen b x h); run = runOf (heldAfter (seen b x h)) (samples (seen b x h)); changed = turns b x h }
+unfolding sightOf
+look-enough true x h = hidden-keeps (heldAfter h) (runOf (heldAfter h) (samples h)) (x .bounce)
+look-enough false x h = step-sample (heldAfter h) (runOf (heldAfter h) (samples h)) (x .closed) (x .bounce) ∙ run-enough x h
+
+unfoldable pub through : List Look → Contact
+through [] = record { held = false; run = 0; changed = false }
+through (x ∷ l) = stepped (through l .held) (through l .run) (x .sight) (x .bounce)
+
+pub through-existing : (l : List Look) → (through l .held ≡ carried (existing l) .held) × (through l .run ≡ carried (existing l) .run)
+unfolding carried existing through stepped exists isClosed
+through-existing [] = (refl, refl)
+through-existing (x ∷ l) = let i = through-existing l in rw (i .0, i .1) (go (x .sight))
+  where
+    c : Contact
+    c = carried (existing l)
+
+    -- of what the look shows
+    go : (o : Sight) → (stepped (c .held) (c .run) o (x .bounce) .held ≡ carried (cond (exists o) (record { bounce = x .bounce; closed = isClosed o } ∷ existing l) (existing l)) .held)
+        × (stepped (c .held) (c .run) o (x .bounce) .run ≡ carried (cond (exists o) (record { bounce = x .bounce; closed = isClosed o } ∷ existing l) (existing l)) .run)
+    go Hidden = (refl, refl)
+    go Open = (refl, refl)
+    go Closed = (refl, refl)
+
+pub through-rule : (l : List Look) → (through l .held ≡ heldAfter (existing l)) × (through l .run ≡ runOf (heldAfter (existing l)) (samples (existing l)))
+through-rule l = let e = through-existing l in let f = carried-held (existing l) in (e .0 ∙ f .0, e .1 ∙ f .1)
+
+pub through-changes : (x : Look) (l : List Look) → through (x ∷ l) .changed ≡ (exists (x .sight) && changes (x .bounce) (heldAfter (existing l)) (samples (existing (x ∷ l))))
+unfolding through existing stepped exists isClosed
+through-changes x l = let e = through-rule l in rw (e .0, e .1) (go (x .sight))
+  where
+    h : List Seen
+    h = existing l
+
+    go : (o : Sight) → stepped (heldAfter h) (runOf (heldAfter h) (samples h)) o (x .bounce) .changed
+        ≡ (exists o && changes (x .bounce) (heldAfter h) (samples (cond (exists o) (record { bounce = x .bounce; closed = isClosed o } ∷ h) h)))
+    go Hidden = refl
+    go Open = ap (λ (y : Contact). y .changed) (run-enough (record { bounce = x .bounce; closed = false }) h)
+    go Closed = ap (λ (y : Contact). y .changed) (run-enough (record { bounce = x .bounce; closed = true }) h)
+
+pub sample-low : (held : Bool) (run : ℕ) (s : Bool) (d : ℕ) → d ≤ 255 → sampled held run s d .run ≤ 254
+unfolding sampled looks
+sample-low held run s d h = go (opposite held s) (leb (looks d) (run + 1)) refl
   where
     go : (o b : Bool) → leb (looks d) (run + 1) ≡ b
         → cond o (cond {A = Contact} b (record { held = not held; run = 0; changed = true }) (record { held = held; run = run + 1; changed = false })) (record { held = held; run = 0; changed = false }) .run ≤ 254
@@ -86,12 +161,24 @@ step-low held run s d h = go (opposite held s) (leb (looks d) (run + 1)) refl
     go true true e = omega arith
     go true false e = let l : run + 1 < looks d = leb-false (looks d) (run + 1) e in omega arith
 
+pub step-low : (held : Bool) (run : ℕ) (o : Sight) (d : ℕ) → d ≤ 255 → run ≤ 254 → stepped held run o d .run ≤ 254
+unfolding stepped
+step-low held run Hidden d h l = l
+step-low held run Open d h l = sample-low held run false d h
+step-low held run Closed d h l = sample-low held run true d h
+
 pub run-low : (h : List Seen) → all (λ x. leb (x .bounce) 255) h ≡ true → runOf (heldAfter h) (samples h) ≤ 254
 unfolding samples runOf
 run-low [] e = omega arith
 run-low (x ∷ h) e =
     let fits = leb-true (x .bounce) 255 (all-first (λ y. leb (y .bounce) 255) x h e) in
-    rw (run-enough x h) at (step-low (heldAfter h) (runOf (heldAfter h) (samples h)) (x .closed) (x .bounce) fits)
+    rw (run-enough x h) at (sample-low (heldAfter h) (runOf (heldAfter h) (samples h)) (x .closed) (x .bounce) fits)
+
+pub through-low : (l : List Look) → all (λ x. leb (x .bounce) 255) l ≡ true → through l .run ≤ 254
+unfolding through
+through-low [] e = omega arith
+through-low (x ∷ l) e =
+    step-low (through l .held) (through l .run) (x .sight) (x .bounce) (leb-true (x .bounce) 255 (all-first (λ y. leb (y .bounce) 255) x l e)) (through-low l (all-rest (λ y. leb (y .bounce) 255) x l e))
 
 -- a sample that isn't as held is the opposite
 pub other : (s held : Bool) → Bool·beq s held ≡ false → s ≡ not held
@@ -120,6 +207,54 @@ changes-to d held s ss e = go (Bool·beq s held) refl
         let r : leb (looks d) (runOf held (s ∷ ss)) ≡ true = sym (changes-run d held (s ∷ ss)) ∙ e in
         let r′ : leb (looks d) 0 ≡ true = rw f at r in
         true-false (sym r′ ∙ at-least-one d)
+
+sample-changed : (held : Bool) (run : ℕ) (s : Bool) (d : ℕ) → sampled held run s d .changed ≡ true → sampled held run s d .held ≡ s
+unfolding sampled opposite
+sample-changed true run true d e = true-false (sym e)
+sample-changed false run false d e = true-false (sym e)
+sample-changed true run false d e = go (leb (looks d) (run + 1)) e
+  where
+    go : (b : Bool) → cond {A = Contact} b (record { held = false; run = 0; changed = true }) (record { held = true; run = run + 1; changed = false }) .changed ≡ true
+        → cond {A = Contact} b (record { held = false; run = 0; changed = true }) (record { held = true; run = run + 1; changed = false }) .held ≡ false
+    go true f = refl
+    go false f = true-false (sym f)
+sample-changed false run true d e = go (leb (looks d) (run + 1)) e
+  where
+    go : (b : Bool) → cond {A = Contact} b (record { held = true; run = 0; changed = true }) (record { held = false; run = run + 1; changed = false }) .changed ≡ true
+        → cond {A = Contact} b (record { held = true; run = 0; changed = true }) (record { held = false; run = run + 1; changed = false }) .held ≡ true
+    go true f = refl
+    go false f = true-false (sym f)
+
+pub step-changed : (b held : Bool) (run : ℕ) (s : Bool) (d : ℕ) → stepped held run (sightOf b s) d .changed ≡ true → stepped held run (sightOf b s) d .held ≡ s
+unfolding stepped sightOf
+step-changed true held run s d e = true-false (sym e)
+step-changed false held run true d e = sample-changed held run true d e
+step-changed false held run false d e = sample-changed held run false d e
+
+module _ (b : Bool) (x : Seen) (h : List Seen) where
+  pub sight-opposite : turns b x h ≡ true → x .closed ≡ not (heldAfter h)
+  unfolding samples
+  sight-opposite = go b
+    where
+      go : (b : Bool) → turns b x h ≡ true → x .closed ≡ not (heldAfter h)
+      go true e = true-false (sym e)
+      go false e = changes-to (x .bounce) (heldAfter h) (x .closed) (samples h) e
+
+  pub sight-turned : turns b x h ≡ true → heldAfter (seen b x h) ≡ x .closed
+  unfolding heldAfter samples
+  sight-turned = go b
+    where
+      go : (b : Bool) → turns b x h ≡ true → heldAfter (seen b x h) ≡ x .closed
+      go true e = true-false (sym e)
+      go false e = rw e (sym (changes-to (x .bounce) (heldAfter h) (x .closed) (samples h) e))
+
+  pub sight-kept : turns b x h ≡ false → heldAfter (seen b x h) ≡ heldAfter h
+  unfolding heldAfter
+  sight-kept = go b
+    where
+      go : (b : Bool) → turns b x h ≡ false → heldAfter (seen b x h) ≡ heldAfter h
+      go true e = refl
+      go false e = rw e
 
 pub reached : (d n : ℕ) → d ≤ n + 1 → leb (looks d) (n + 1) ≡ true
 unfolding looks

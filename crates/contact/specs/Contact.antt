@@ -7,9 +7,13 @@
 --    samples h            the samples of a history
 --    heldAfter h          is the contact held after a history?
 --    runOf held ss        the run
---    stepped              one look of a contact of which only the run is remembered
+--    sampled              one sample more of a contact of which only the run is remembered
+--    stepped              one look more of it, at which it may have no sample
+--    sightOf hidden s     what the look shows: nothing if the contact is hidden, else its sample
+--    exists o, isClosed o the contact has a sample in a look that shows o; it reads closed there
+--    Look, existing l     a look at the contact, with the KBDBOUNCE in force; the samples of looks that exist
 --
--- Samples and histories are newest first, and hold the samples since the restart that exist.
+-- Samples, histories and looks are newest first. Samples and histories hold the samples since the restart that exist.
 use Prim.Native.Nat.{ℕ, _+_, max}
 use mathlib.Core.Bool.{Bool, true, false, not, _&&_, Bool·beq}
 use mathlib.Core.List.{List, [], _∷_}
@@ -17,6 +21,8 @@ use lib.ListN.{length, take}
 use lib.Dec.{leb}
 use Rattle.words.specs.Words.{_if_, _else_, all}
 use Rattle.contact.specs.declared.Contact.{Contact}
+use Rattle.contact.specs.declared.Sight.{Sight}
+use Rattle.contact.specs.declared.Sight.the-variants.{Hidden, Open, Closed}
 
 -- "Let D be KBDBOUNCE, with 0 counting as 1"
 unfoldable pub looks : ℕ → ℕ
@@ -50,7 +56,35 @@ runOf held [] = 0
 runOf held (s ∷ ss) = runOf held ss + 1 if opposite held s else 0
 
 -- what is held, the run, and whether it changed, after one more sample
-unfoldable pub stepped : Bool → ℕ → Bool → ℕ → Contact
-stepped held run s d =
+unfoldable pub sampled : Bool → ℕ → Bool → ℕ → Contact
+sampled held run s d =
     (record { held = not held; run = 0; changed = true } if leb (looks d) (run + 1) else record { held = held; run = run + 1; changed = false })
     if opposite held s else record { held = held; run = 0; changed = false }
+
+-- "a key with none [no sample] in a look doesn't change at it"
+unfoldable pub stepped : Bool → ℕ → Sight → ℕ → Contact
+stepped held run Hidden d = record { held = held; run = run; changed = false }
+stepped held run Open d = sampled held run false d
+stepped held run Closed d = sampled held run true d
+
+unfoldable pub sightOf : Bool → Bool → Sight
+sightOf hidden closed = Hidden if hidden else (Closed if closed else Open)
+
+pub record Look : Type 0 where
+  pub bounce : ℕ
+  pub sight : Sight
+
+-- "a key's last D samples are the last D that exist"
+unfoldable pub exists : Sight → Bool
+exists Hidden = false
+exists Open = true
+exists Closed = true
+
+unfoldable pub isClosed : Sight → Bool
+isClosed Hidden = false
+isClosed Open = false
+isClosed Closed = true
+
+unfoldable pub existing : List Look → List Seen
+existing [] = []
+existing (x ∷ l) = record { bounce = x .bounce; closed = isClosed (x .sight) } ∷ existing l if exists (x .sight) else existing l

@@ -1,6 +1,13 @@
 // One contact: how it is held, and its run of newest samples that are the opposite.
 ghost use mathlib.Core.Path.{_≡_};
-ghost use Rattle.contact.specs.Contact.{stepped};
+ghost use Rattle.contact.specs.Contact.{sampled, stepped};
+
+// What a look shows of a contact: nothing, or how it reads.
+pub enum Sight {
+    Hidden,
+    Open,
+    Closed,
+}
 
 // What one look makes of a contact.
 pub struct Contact {
@@ -9,9 +16,9 @@ pub struct Contact {
     pub changed: bool,
 }
 
-// One more sample of a contact, under the KBDBOUNCE in force.
-pub fn step(held: bool, run: u8, closed: bool, bounce: u8) -> Contact
-    ensures { λ r. ⌜ r ≡ stepped held run closed bounce ⌝ }
+// One sample more of a contact, under the KBDBOUNCE in force.
+fn sample(held: bool, run: u8, closed: bool, bounce: u8) -> Contact
+    ensures { λ r. ⌜ r ≡ sampled held run closed bounce ⌝ }
 {
     if closed == held {
         return Contact {
@@ -39,5 +46,20 @@ pub fn step(held: bool, run: u8, closed: bool, bounce: u8) -> Contact
         held: held,
         run: longer,
         changed: false,
+    }
+}
+
+// One look more at a contact: if it is hidden, it stays as it is.
+pub fn step(held: bool, run: u8, sight: Sight, bounce: u8) -> Contact
+    ensures { λ r. ⌜ r ≡ stepped held run sight bounce ⌝ }
+{
+    match sight {
+        Sight::Hidden => Contact {
+            held: held,
+            run: run,
+            changed: false,
+        },
+        Sight::Open => sample(held, run, false, bounce),
+        Sight::Closed => sample(held, run, true, bounce),
     }
 }

@@ -21,3 +21,5 @@ pub mod Source
 pub mod Total
 pub mod Opened
 pub mod Retired
+pub mod Hidden
+pub mod RefutedHidden

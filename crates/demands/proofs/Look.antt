@@ -15,9 +15,8 @@ use Rattle.words.specs.Words.{_if_, _else_, among, some, table}
 use Rattle.words.proofs.Tables.{table-at, table-same}
 use Rattle.keys.specs.Keys.{code, sample}
 use Rattle.contact.specs.declared.Contact.{Contact}
-use Rattle.contact.specs.Contact.{stepped}
-use Rattle.contact.proofs.Laws.{run-enough}
 use Rattle.sheet.specs.Sheet.{Past, looked, bounce, size, mask, history, held, changed, change, changesBelow, changes, waiting, relint, marks, rsint, rklint, porirq}
+use Rattle.sheet.proofs.Contacts.{contactOf, contact-right}
 use Rattle.sheet.proofs.Facts.{waiting-most}
 use Rattle.state.specs.declared.Module.{Module}
 use Rattle.state.specs.Module.{Queue, queueOf, withQueue, forgotten}
@@ -28,18 +27,9 @@ use Rattle.demands.specs.Shown.{run, shown}
 use Rattle.demands.proofs.Queue.{came, came-few, putAll-came}
 
 module _ (s : List ℕ) (past : Past) where
-  -- key k's contact after the look, by the sheet
-  contactOf : ℕ → Contact
-  contactOf k = record { held = held k (looked s ∷ past); run = run k (looked s ∷ past); changed = changed k s past }
-
-  -- what is held and the run are enough
-  contact-right : (k : ℕ) → stepped (held k past) (run k past) (sample s (size past) k) (bounce past) ≡ contactOf k
-  unfolding contactOf held run history changed
-  contact-right k = run-enough (record { bounce = bounce past; closed = sample s (size past) k }) (history k past)
-
-  contact-shown : (k : ℕ) → k < 104 → scan.contactAt (shown past) s k ≡ contactOf k
-  unfolding scan.contactAt shown
-  contact-shown k h = rw (table-at (λ k. held k past) 104 k false h, table-at (λ k. run k past) 104 k 0 h) (contact-right k)
+  contact-shown : (k : ℕ) → k < 104 → scan.contactAt (shown past) s k ≡ contactOf s past k
+  unfolding scan.contactAt scan.sight shown run
+  contact-shown k h = rw (table-at (λ k. held k past) 104 k false h, table-at (λ k. run k past) 104 k 0 h) (contact-right s past k)
 
   change-shown : (k : ℕ) → k < 104 → cond (scan.contactAt (shown past) s k .changed) (code k (sample s (shown past .size) k) ∷ []) [] ≡ change k s past
   unfolding change shown contactOf
@@ -59,7 +49,7 @@ module _ (s : List ℕ) (past : Past) where
   held-table = table-same _ _ 104 (λ k h. ap (λ (x : Contact). x .held) (contact-shown k h))
 
   run-table : table (λ k. scan.contactAt (shown past) s k .run) 104 ≡ table (λ k. run k (looked s ∷ past)) 104
-  unfolding contactOf
+  unfolding contactOf run
   run-table = table-same _ _ 104 (λ k h. ap (λ (x : Contact). x .run) (contact-shown k h))
 
   queue-shown : putAll (queueOf (shown past)) (changes s past) ≡ queueOf (shown (looked s ∷ past))

@@ -12,6 +12,7 @@ use Rattle.demands.specs.Shown as shown
 use Rattle.demands.specs.Table.{First, place, rules}
 use Rattle.demands.specs.Wrong.{calledBy, carried, declined, blankBytes, stays, nothing, ignoring, handled, madeUp, runsKept, roomFor, keysKept, quiet, hushing, hushed, pastState, pastBytes, takenFirst, hurried, putLate, putAllLate, oldestLost, onlyFirst, emptied, trusted, single, singleStays, singleBlank, unreported}
 use Rattle.demands.specs.WrongBlocks.{restored, onward, allMade, allOrNone, overCounted, madeFirst, newest, hushedUp}
+use Rattle.demands.specs.WrongHidden.{changesBy, contactsBy, lookedBy, showing, apart, byHeld, byHeldAfter, openThen, lastRead, again, outOpen, byRowsOut, withItself, ripe, raw}
 
 unfoldable pub opened : Bool
 unfolding sheet.opened calls.opened
@@ -19,6 +20,7 @@ unfolding sheet.opened calls.opened
     singles blockRules Leads numberOf Unaltered Stopped lookeds fit afterActs pastOf blocks.fetched looksOf spelled
     lent after wrotes gots happened done fits codesIn covers fetchedBy fetched seen
     changing asking called blocking
+    changesBy contactsBy lookedBy showing apart byHeld byHeldAfter openThen lastRead again outOpen byRowsOut withItself ripe raw
     restored onward allMade allOrNone overCounted madeFirst newest hushedUp
     same agrees passes sessions
     shown.after shown.run shown.places shown.shown shown.fitting

@@ -9,3 +9,4 @@ pub mod Wrong
 pub mod WrongBlocks
 pub mod Sessions
 pub mod Retired
+pub mod WrongHidden

@@ -5,14 +5,14 @@
 --    rowsIn, colsIn  the rows and columns in a size, by its first and its second digit
 --    closes          the sample that closes a column's contact alone
 -- Assumes nothing.
-use Prim.Native.Nat.{ℕ, _+_, _*_, _-_}
-use mathlib.Core.Path.{_≡_, refl, ap}
+use Prim.Native.Nat.{ℕ, _+_, _*_, _/_, _%_, _-_}
+use mathlib.Core.Path.{_≡_, refl}
 use mathlib.Core.Bool.{Bool, true, false, not, _&&_, Bool·beq}
 use mathlib.Core.List.{List, [], _∷_}
 use lib.ListN.{length, getD}
 use lib.Dec.{eqb}
 use Rattle.words.specs.Words.{_if_, _else_, allBelow, among, bit, table}
-use Rattle.keys.specs.Keys.{isKey, keyAt, rowOf, colOf, pressCode, releaseCode, code, isCode, keyOf, acceptable, inSize, keyIn, sample}
+use Rattle.keys.specs.Keys.{isKey, keyAt, rowOf, colOf, pressCode, releaseCode, code, isCode, keyOf, acceptable, inSize, keyIn, sample, special, hidden}
 
 sizes : List ℕ
 sizes =
@@ -98,7 +98,7 @@ keys-right : (allBelow (λ i. allBelow (λ j. allBelow (λ row. allBelow (inRigh
 unfolding sizes rowsIn colsIn inRight allBelow among keyIn inSize rowOf colOf
 keys-right = (refl, refl)
 
--- ---- "Bit c is 1 when column c is closed, bit 12 is the SF key." "All 13 contacts are read independently."
+-- ---- "Bit c is 1 when column c is closed, bit 12 is the SF key."
 closes : List ℕ
 closes = 0x0001 ∷ 0x0002 ∷ 0x0004 ∷ 0x0008 ∷ 0x0010 ∷ 0x0020 ∷ 0x0040 ∷ 0x0080 ∷ 0x0100 ∷ 0x0200 ∷ 0x0400 ∷ 0x0800 ∷ 0x1000 ∷ []
 
@@ -118,7 +118,22 @@ samples-right : allBelow (λ r. allBelow (λ c. allBelow (sampleRight r c) 104) 
 unfolding codes closes rowOnly sampleRight table allBelow sample keyIn inSize rowOf colOf bit
 samples-right = refl
 
--- no other contact matters, in any look
-pub sample-own : (s t : List ℕ) (size k : ℕ) → bit (colOf k) (getD s (rowOf k) 0) ≡ bit (colOf k) (getD t (rowOf k) 0) → sample s size k ≡ sample t size k
-unfolding sample
-sample-own s t size k e = ap (λ (b : Bool). b if keyIn size k else false) e
+-- ---- "While an SF contact in the size is closed in a look, that row's matrix samples don't exist for that look"
+-- key k is one of the matrix in row r
+matrixOf : ℕ → ℕ → Bool
+matrixOf r k = not (eqb (getD codes k 0 % 16) 12) && eqb (getD codes k 0 / 16) r
+
+-- the special function contact of row r, closed alone, hides the matrix of its row; open alone, it leaves that in sight and all others hide theirs
+hiddenRight : ℕ → ℕ → Bool
+hiddenRight r k =
+    Bool·beq (hidden (rowOnly r 0x1000 0) 0x8C k) (matrixOf r k)
+    && Bool·beq (hidden (rowOnly r 0x0FFF 0x1FFF) 0x8C k) (not (eqb (getD codes k 0 % 16) 12) && not (eqb (getD codes k 0 / 16) r))
+
+-- in the size of i + 2 rows and i + 2 columns it hides if row r is in the size
+sizeHides : ℕ → ℕ → ℕ → Bool
+sizeHides i r k = Bool·beq (hidden (rowOnly r 0x1000 0) (getD sizes (12 * i) 0) k) (matrixOf r k && among r (getD rowsIn i []))
+
+-- all 8 contacts and all 104 keys, and in seven sizes
+hidden-right : (allBelow (λ r. allBelow (hiddenRight r) 104) 8 ≡ true) × (allBelow (λ i. allBelow (λ r. allBelow (sizeHides i r) 104) 8) 7 ≡ true)
+unfolding codes closes sizes rowsIn rowOnly matrixOf hiddenRight sizeHides table allBelow among hidden special sample keyAt isKey keyIn inSize rowOf colOf bit
+hidden-right = (refl, refl)

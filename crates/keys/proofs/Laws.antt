@@ -12,19 +12,25 @@
 --    code-place                     the code of a change, by the key's row and column
 --    code-low                       a press is at most 0x7F; code-byte: every code is a byte
 --    sample-out                     out of the size a sample counts as open
+--    special-low, special-row, special-col    the special function key of a row is a key, and not of the matrix
+--    special-own, special-same      it is a key itself that is not of the matrix, and so its own
+--    hidden-matrix, hidden-special  a key of the matrix is hidden while its row's special function contact is closed; that one never is
+--    hidden-own                     no other contact matters
 --    rows-most                      an acceptable size has at most 8 rows
 --    code-in                        by its row and column, or by the number of its key, a code is of a key in the size
 -- Assumes nothing.
 use Prim.Native.Nat.{ℕ, _+_, _*_, _/_, _%_, _≤_, _<_}
-use native.Mathlib.Decide.{decLe}
+use native.Mathlib.Decide.{decLe, decLt}
 use native.Mathlib.Omega.{arith}
-use mathlib.Core.Path.{_≡_, refl, sym, _∙_}
+use mathlib.Core.Path.{_≡_, refl, sym, ap, _∙_}
 use mathlib.Core.Bool.{Bool, true, false, cond, _&&_, and-false}
 use mathlib.Core.List.{List}
-use borrow.Author.Tests.{le-leb, lt-leb, lt-ltb, le-ltb, leb-true, ne-eqb}
+use borrow.Author.Tests.{le-leb, lt-leb, lt-ltb, le-ltb, leb-true, ltb-false, ne-eqb}
 use lib.Dec.{leb, ltb}
+use lib.ListN.{getD}
+use Rattle.words.specs.Words.{_if_, _else_, bit}
 use Rattle.words.proofs.Laws.{and-left, and-right}
-use Rattle.keys.specs.Keys.{isKey, keyAt, rowOf, colOf, pressCode, releaseCode, codeAt, code, keyOf, acceptable, inSize, keyIn, sample}
+use Rattle.keys.specs.Keys.{isKey, keyAt, rowOf, colOf, pressCode, releaseCode, codeAt, code, keyOf, acceptable, inSize, keyIn, sample, special, hidden}
 
 module _ (row col : ℕ) where
   pub key-yes : row ≤ 7 → col ≤ 12 → isKey row col ≡ true
@@ -172,6 +178,53 @@ code-byte k false = go (isKey (rowOf k) (colOf k)) refl
 pub sample-out : (s : List ℕ) (size k : ℕ) → keyIn size k ≡ false → sample s size k ≡ false
 unfolding sample
 sample-out s size k e = rw e
+
+-- no other contact matters, in any look
+pub sample-own : (s t : List ℕ) (size k : ℕ) → bit (colOf k) (getD s (rowOf k) 0) ≡ bit (colOf k) (getD t (rowOf k) 0) → sample s size k ≡ sample t size k
+unfolding sample
+sample-own s t size k e = ap (λ (b : Bool). b if keyIn size k else false) e
+
+module _ (k : ℕ) (h : k < 104) where
+  pub special-low : special k < 104
+  unfolding special
+  special-low = key-low (rowOf k) 12 (row-low k h) (omega arith)
+
+  pub special-row : rowOf (special k) ≡ rowOf k
+  unfolding special
+  special-row = back-row (rowOf k) 12 (row-low k h) (omega arith)
+
+  pub special-col : colOf (special k) ≡ 12
+  unfolding special
+  special-col = back-col (rowOf k) 12 (row-low k h) (omega arith)
+
+  pub special-same : special (special k) ≡ special k
+  unfolding special
+  special-same = rw special-row
+
+  pub special-own : ltb (colOf k) 12 ≡ false → special k ≡ k
+  unfolding special
+  special-own e =
+      let a = col-low k h in
+      let b = ltb-false (colOf k) 12 e in
+      let c : 12 ≡ colOf k = omega arith in
+      ap (keyAt (rowOf k)) c ∙ key-back k h
+
+module _ (s : List ℕ) (size row : ℕ) (h : row ≤ 7) where
+  pub hidden-matrix : (col : ℕ) → col < 12 → hidden s size (13 * row + col) ≡ sample s size (13 * row + 12)
+  unfolding hidden special
+  hidden-matrix col l = rw (place-row row col h (omega arith), place-col row col h (omega arith), lt-ltb col 12 l, key-place row 12 h (omega arith))
+
+  pub hidden-special : hidden s size (13 * row + 12) ≡ false
+  unfolding hidden
+  hidden-special = rw (place-col row 12 h (omega arith))
+
+pub hidden-own : (s t : List ℕ) (size k : ℕ) → bit 12 (getD s (rowOf k) 0) ≡ bit 12 (getD t (rowOf k) 0) → hidden s size k ≡ hidden t size k
+unfolding hidden
+hidden-own s t size k e = go (decLt k 104)
+  where
+    go : Dec (k < 104) → hidden s size k ≡ hidden t size k
+    go (no l) = rw (col-no k (omega arith))
+    go (yes l) = ap (λ (b : Bool). ltb (colOf k) 12 && b) (sample-own s t size (special k) (rw (special-row k l, special-col k l) e))
 
 module _ (size : ℕ) (ok : acceptable size ≡ true) where
   pub rows-most : size / 16 ≤ 8

@@ -9,6 +9,8 @@
 --    acceptable size                   KBDSIZE may be this
 --    inSize size row col, keyIn size k    the key is in the size
 --    sample s size k                   key k's sample in a look with samples s
+--    special k                         the special function key of key k's row
+--    hidden s size k                   key k has no sample in a look with samples s
 use Prim.Native.Nat.{ℕ, _+_, _*_, _/_, _%_}
 use mathlib.Core.Bool.{Bool, false, _&&_, _||_}
 use mathlib.Core.List.{List}
@@ -64,3 +66,10 @@ keyIn size k = inSize size (rowOf k) (colOf k)
 -- "Bit c is 1 when column c is closed, bit 12 is the SF key." "All others [out of the size] count as open."
 unfoldable pub sample : List ℕ → ℕ → ℕ → Bool
 sample s size k = bit (colOf k) (getD s (rowOf k) 0) if keyIn size k else false
+
+unfoldable pub special : ℕ → ℕ
+special k = keyAt (rowOf k) 12
+
+-- "While an SF contact in the size is closed in a look, that row's matrix samples don't exist for that look"
+unfoldable pub hidden : List ℕ → ℕ → ℕ → Bool
+hidden s size k = ltb (colOf k) 12 && sample s size (special k)

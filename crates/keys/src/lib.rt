@@ -16,6 +16,9 @@ pub const ROWS: u8 = 8;
 // A row's columns, its special function key among them.
 pub const COLS: u8 = 13;
 
+// The column of a row's special function key.
+pub const SPECIAL: u8 = COLS - 1;
+
 // How many keys a row has.
 pub const ROW_KEYS: usize = COLS as usize;
 

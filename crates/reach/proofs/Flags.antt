@@ -3,7 +3,9 @@
 --    Flags past ..    what is known of a past's flags and marks
 --    Known z d ..     after some past, all of this is known
 --    dropped          one key changes while 15 wait: RSINT and RELINT are set, RKLINT if RSINT was, no mark is left
---    all-set          the keys as wanted, then the corner key there and back: every flag is set
+--    flat h           the keys h, with every special function key open
+--    all-set          the matrix as wanted, then the special function keys, which hide nothing that is not yet so;
+--                     then the first row's special function key there and back: every flag is set
 --    two-flags        RSINT and RKLINT as wanted: by KBDIC bit 0, by a read of the four, or by KBDIC between there and back
 --    any-flags        and RELINT, by KBDIC bit 1
 --    fetch-all        codes fetched
@@ -18,15 +20,18 @@ use borrow.Author.Tests.{lt-ltb}
 use lib.Dec.{ltb}
 use lib.ListN.{length, drop, length-append}
 use Rattle.words.specs.Words.{all, among, some, bit, without}
-use Rattle.keys.specs.Keys.{code, acceptable}
+use Rattle.words.proofs.Laws.{and-left}
+use Rattle.words.proofs.Lists.{by-test}
+use Rattle.keys.specs.Keys.{colOf, code, acceptable, special}
+use Rattle.keys.proofs.Laws.{hidden-special}
 use Rattle.registers.specs.declared.Register.the-variants.{KBDIC, KBDCODE, EVTCODE}
 use Rattle.registers.specs.Registers.{_is_, address, pictured}
 use Rattle.sheet.specs.Sheet.{Past, looked, wrote, got, cleared, bounce, size, history, held, changes, waiting, relint, allRead, marks, rsint, rklint, porirq}
 use Rattle.judge.specs.Lines.{byteFits}
 use Rattle.demands.specs.Shown.{run}
-use Rattle.reach.proofs.Samples.{samplesOf}
-use Rattle.reach.proofs.Steps.{doable, Keys, Within, look-full, look-one}
-use Rattle.reach.proofs.Codes.{none, put, put-at, put-else, put-within, corner-in, Waits}
+use Rattle.reach.proofs.Samples.{samplesOf, Within, told-hidden}
+use Rattle.reach.proofs.Steps.{doable, Keys, none, Clear, clear-open, clear-one, look-full, look-one}
+use Rattle.reach.proofs.Codes.{twice, put, put-at, put-else, put-within, first-in, Waits}
 
 pub record Flags (past : Past) (rs rk re : Bool) (l : List ℕ) : Type 0 where
   pub its-rsint : rsint past ≡ rs
@@ -36,9 +41,9 @@ pub record Flags (past : Past) (rs rk re : Bool) (l : List ℕ) : Type 0 where
 
 -- ---- a change while 15 wait
 module _ (past : Past) (z : ℕ) (h : ℕ → Bool) (w : List ℕ) (t : Keys past z 1 h none w) (n : length w ≡ 15) (f : ℕ → Bool) (ok : Within z f)
-    (k : ℕ) (low : k < 104) (e : f k ≡ not (h k)) (same : (j : ℕ) → (j ≡ k → ⊥) → f j ≡ h j) where
+    (clear : Clear z h f) (k : ℕ) (low : k < 104) (e : f k ≡ not (h k)) (same : (j : ℕ) → (j ≡ k → ⊥) → f j ≡ h j) where
   one : changes (samplesOf f) past ≡ code k (f k) ∷ []
-  one = look-one past z h none w f ok t k low e same
+  one = look-one past z h w t f ok clear k low e same
 
   some-one : some (changes (samplesOf f) past) ≡ true
   unfolding some
@@ -64,41 +69,72 @@ module _ (past : Past) (z : ℕ) (h : ℕ → Bool) (w : List ℕ) (t : Keys pas
 abbrev pub Known : ℕ → ℕ → (ℕ → Bool) → (ℕ → ℕ) → List ℕ → Bool → Bool → Bool → List ℕ → Type 0
 Known z d h r w rs rk re l = (past : Past) × (Keys past z d h r w × Flags past rs rk re l)
 
-back : (h : ℕ → Bool) → h 0 ≡ not (put h 0 (not (h 0)) 0)
-back h = go (h 0) ∙ ap not (sym (put-at h 0 (not (h 0))))
-  where
-    go : (b : Bool) → b ≡ not (not b)
-    go true = refl
-    go false = refl
+-- ---- the matrix alone
+flat : (ℕ → Bool) → ℕ → Bool
+flat h k = cond (ltb (colOf k) 12) (h k) false
+
+module _ (z : ℕ) (h : ℕ → Bool) (h-ok : Within z h) where
+  flat-ok : Within z (flat h)
+  unfolding flat
+  flat-ok k l o = by-test (λ t. cond t (h k) false ≡ false) (ltb (colOf k) 12) (λ _. h-ok k l o) (λ _. refl)
+
+  -- with no special function key closed nothing is hidden
+  to-flat : (g : ℕ → Bool) → Clear z g (flat h)
+  unfolding flat
+  to-flat g = clear-open z g (flat h) flat-ok (λ k l e. rw e)
+
+  -- what these hide then is as wanted
+  from-flat : Clear z (flat h) h
+  unfolding flat
+  from-flat k l e = rw (and-left (ltb (colOf k) 12) (h (special k)) (sym (told-hidden h z k l h-ok) ∙ e))
 
 module _ (z : ℕ) (size-ok : acceptable z ≡ true) (h : ℕ → Bool) (h-ok : Within z h) (w : List ℕ) (n : length w ≡ 15) where
   h₁ : ℕ → Bool
-  h₁ = put h 0 (not (h 0))
+  h₁ = put h 12 (not (h 12))
 
   h₁-ok : Within z h₁
   unfolding h₁
-  h₁-ok = put-within z h 0 (not (h 0)) (corner-in z size-ok) h-ok
+  h₁-ok = put-within z h 12 (not (h 12)) (first-in z size-ok) h-ok
+
+  -- only that key differs, and it is never hidden
+  there-else : (j : ℕ) → (j ≡ 12 → ⊥) → h₁ j ≡ h j
+  unfolding h₁
+  there-else = put-else h 12 (not (h 12))
+
+  there-clear : Clear z h h₁
+  there-clear = clear-one z h h₁ 12 (hidden-special (samplesOf h₁) z 0 (omega arith)) there-else
+
+  home-clear : Clear z h₁ h
+  home-clear = clear-one z h₁ h 12 (hidden-special (samplesOf h) z 0 (omega arith)) (λ j m. sym (there-else j m))
 
   -- there, and back
   there : (past : Past) → Keys past z 1 h none w → (rk : Bool) → (rklint past || rsint past) ≡ rk
       → Keys (looked (samplesOf h₁) ∷ past) z 1 h₁ none w × Flags (looked (samplesOf h₁) ∷ past) true rk true []
   unfolding h₁
-  there past t rk r = (look-full past z h none w h₁ h₁-ok t n, dropped past z h w t n h₁ h₁-ok 0 (omega arith) (put-at h 0 (not (h 0))) (put-else h 0 (not (h 0))) rk r)
+  there past t rk r = (
+    look-full past z h w t h₁ h₁-ok there-clear n,
+    dropped past z h w t n h₁ h₁-ok there-clear 12 (omega arith) (put-at h 12 (not (h 12))) there-else rk r,
+  )
 
   home : (past : Past) → Keys past z 1 h₁ none w → (rk : Bool) → (rklint past || rsint past) ≡ rk
       → Keys (looked (samplesOf h) ∷ past) z 1 h none w × Flags (looked (samplesOf h) ∷ past) true rk true []
   unfolding h₁
-  home past t rk r = (look-full past z h₁ none w h h-ok t n, dropped past z h₁ w t n h h-ok 0 (omega arith) (back h) (λ j m. sym (put-else h 0 (not (h 0)) j m)) rk r)
+  home past t rk r = (
+    look-full past z h₁ w t h h-ok home-clear n,
+    dropped past z h₁ w t n h h-ok home-clear 12 (omega arith) (twice (h 12) ∙ ap not (sym (put-at h 12 (not (h 12))))) (λ j m. sym (there-else j m)) rk r,
+  )
 
   -- every flag set
   pub all-set : Waits z w → Known z 1 h none w true true true []
   all-set (past, (g, t)) =
-      let t₁ = look-full past z g none w h h-ok t n in
-      let past₁ : Past = looked (samplesOf h) ∷ past in
-      let b = there past₁ t₁ (rklint past₁ || rsint past₁) refl in
-      let past₂ : Past = looked (samplesOf h₁) ∷ past₁ in
-      let c = home past₂ (b .0) true (rw (b .1 .its-rsint) (or-true (rklint past₂))) in
-      (looked (samplesOf h) ∷ past₂, c)
+      let t₁ = look-full past z g w t (flat h) (flat-ok z h h-ok) (to-flat z h h-ok g) n in
+      let past₁ : Past = looked (samplesOf (flat h)) ∷ past in
+      let t₂ = look-full past₁ z (flat h) w t₁ h h-ok (from-flat z h h-ok) n in
+      let past₂ : Past = looked (samplesOf h) ∷ past₁ in
+      let b = there past₂ t₂ (rklint past₂ || rsint past₂) refl in
+      let past₃ : Past = looked (samplesOf h₁) ∷ past₂ in
+      let c = home past₃ (b .0) true (rw (b .1 .its-rsint) (or-true (rklint past₃))) in
+      (looked (samplesOf h) ∷ past₃, c)
 
   -- ---- KBDIC
   module _ (g : ℕ → Bool) (rs rk re : Bool) (l : List ℕ) where

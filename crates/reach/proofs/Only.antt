@@ -30,8 +30,9 @@ use Rattle.sound.proofs.Laws.{sound-facts, sound-out}
 use Rattle.sound.proofs.Exactly.{said-sound}
 use Rattle.demands.specs.Shown.{run, places, shown}
 use Rattle.demands.proofs.Bytes.{seen-all}
-use Rattle.reach.proofs.Steps.{doable, Within}
-use Rattle.reach.proofs.Codes.{none, Waits, filled, told-code, all-more}
+use Rattle.reach.proofs.Samples.{Within}
+use Rattle.reach.proofs.Steps.{doable, none}
+use Rattle.reach.proofs.Codes.{Waits, filled, told-code, all-more}
 use Rattle.reach.proofs.Flags.{Known, any-flags, fetch-all, marked, any-marks}
 use Rattle.reach.proofs.Runs.{bounced, any-runs}
 

@@ -1,7 +1,9 @@
 -- The samples in which given keys are closed.
 --
 --    samplesOf f    eight samples: key k is closed if f k
---    told           a look with them sees f, if f closes no key out of the size
+--    Within z f     f closes no key out of the size z
+--    told           if so, a look with them sees f
+--    told-hidden    a look with them hides the keys of the matrix in the rows whose special function key f closes
 --    eight          they are eight
 --    narrow, u16s   they have no bit above 12, and are of the type u16
 -- Assumes nothing.
@@ -9,7 +11,7 @@ use Prim.Native.Nat.{ℕ, zero, suc, _+_, _*_, _^_, _<_, _≤_}
 use native.Mathlib.Omega.{arith}
 use native.Mathlib.Nat.{pow-suc}
 use mathlib.Core.Path.{_≡_, refl, sym, ap, _∙_}
-use mathlib.Core.Bool.{Bool, true, false, not, cond}
+use mathlib.Core.Bool.{Bool, true, false, not, _&&_, cond}
 use mathlib.Core.List.{List, [], _∷_}
 use borrow.Author.Tests.{lt-ltb}
 use lib.Dec.{ltb}
@@ -18,8 +20,8 @@ use Rattle.words.specs.Words.{bit, table, all}
 use Rattle.words.proofs.Bits.{bit-none, bit-first, bit-later}
 use Rattle.words.proofs.Tables.{table-at, table-length}
 use Rattle.words.proofs.Lists.{by-test, all-append, all-one, all-none}
-use Rattle.keys.specs.Keys.{rowOf, colOf, keyIn, sample}
-use Rattle.keys.proofs.Laws.{row-low, col-low, row-yes, col-yes}
+use Rattle.keys.specs.Keys.{rowOf, colOf, keyIn, sample, special, hidden}
+use Rattle.keys.proofs.Laws.{row-low, col-low, row-yes, col-yes, special-low}
 use Rattle.judge.specs.Lines.{high}
 
 -- columns c to c + n - 1, the lowest first
@@ -55,6 +57,14 @@ told f size k h out =
     ∙ bit-word (λ c. f (13 * rowOf k + c)) (colOf k) 0 13 (let c = col-low k h in omega arith)
     ∙ ap f (let r = row-yes k h in let c = col-yes k h in omega arith))
     (λ e _. sym (out e)) refl
+
+-- no key out of the size
+abbrev pub Within : ℕ → (ℕ → Bool) → Type 0
+Within z f = (k : ℕ) → k < 104 → keyIn z k ≡ false → f k ≡ false
+
+pub told-hidden : (f : ℕ → Bool) (z k : ℕ) → k < 104 → Within z f → hidden (samplesOf f) z k ≡ (ltb (colOf k) 12 && f (special k))
+unfolding hidden
+told-hidden f z k h ok = let l = special-low k h in ap (λ (b : Bool). ltb (colOf k) 12 && b) (told f z (special k) l (ok (special k) l))
 
 pub eight : (f : ℕ → Bool) → length (samplesOf f) ≡ 8
 unfolding samplesOf

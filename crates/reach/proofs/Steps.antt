@@ -1,19 +1,23 @@
--- ONE LOOK MORE, on the sheet: under KBDBOUNCE 1, where every key is at once as its sample says.
+-- ONE LOOK MORE, on the sheet: under KBDBOUNCE 1, where every key that is not hidden is at once as its sample says.
 --
 --    doable past      every happening is one that a call can make
 --    Keys past ..     what is known of a past: the size, KBDBOUNCE, the keys, the runs, the queue, and that PORIRQ is set
---    quick, slow      a contact's step under KBDBOUNCE 1, and under 255 while its run is below 254
---    contact-right    what a look makes of a key, by its run alone
+--    none             the run of every key is 0
+--    quick, slow      a look at a contact under KBDBOUNCE 1, its run being 0, and under 255 while its run is below 254
+--    calm, unseen     a contact that did not change, and so one that was hidden
 --    no-changes, one-change    a look's changes if no key changes, and if one does
---    Within z h       h closes no key out of the size z; within: nor does any past
---    look-to          a look after which the keys are as f says
+--    known-made       what a look makes of a key, by what is known of the past
+--    Clear z h f      a look with the samples of f, the keys being h, hides no key that is not yet as f says
+--    clear-open       so if f closes no special function key
+--    clear-one        so if f differs from h in one key alone, and this one is not hidden
+--    look-to          such a look makes the keys as f says
 --    look-full        the same while 15 codes wait: none is added
 --    look-one         the look's changes, if f differs in one key
 -- Assumes nothing.
 use Prim.Native.Nat.{ℕ, zero, suc, _+_, _-_, _≤_, _<_}
 use native.Mathlib.Nat.{le-refl}
 use native.Mathlib.Omega.{arith}
-use native.Mathlib.Decide.{decLt}
+use native.Mathlib.Decide.{decLt, ℕ-discrete}
 use mathlib.Core.Path.{_≡_, refl, sym, ap, _∙_}
 use mathlib.Core.Bool.{Bool, true, false, not, _&&_, cond}
 use mathlib.Core.List.{List, [], _∷_, _++_, append-nil}
@@ -21,17 +25,19 @@ use borrow.Author.Tests.{eq-eqb}
 use lib.Dec.{eqb, leb, ltb}
 use lib.ListN.{length, take}
 use Rattle.words.specs.Words.{all}
+use Rattle.words.proofs.Laws.{true-false, and-right}
 use Rattle.words.proofs.Lists.{take-room}
-use Rattle.keys.specs.Keys.{code, keyIn, sample}
+use Rattle.keys.specs.Keys.{colOf, code, sample, special, hidden}
+use Rattle.keys.proofs.Laws.{special-low, special-col}
 use Rattle.contact.specs.declared.Contact.{Contact}
-use Rattle.contact.specs.Contact.{opposite, stepped}
-use Rattle.contact.proofs.Laws.{run-enough, opposite-flips, opposite-stays, reached, ahead}
+use Rattle.contact.specs.Contact.{opposite, sampled, stepped, sightOf}
+use Rattle.contact.proofs.Laws.{hidden-keeps, opposite-flips, opposite-stays, reached, ahead}
 use Rattle.registers.specs.Registers.{canRead, canWrite, pictured}
-use Rattle.sheet.specs.Sheet.{Past, looked, wrote, got, bounce, size, history, held, changed, change, changesBelow, changes, waiting, porirq}
-use Rattle.sheet.proofs.Sizes.{out-open}
+use Rattle.sheet.specs.Sheet.{Past, looked, wrote, got, bounce, size, held, changed, change, changesBelow, changes, waiting, porirq}
+use Rattle.sheet.proofs.Contacts.{contactOf, contact-right}
 use Rattle.judge.specs.Lines.{high, byteFits}
 use Rattle.demands.specs.Shown.{run}
-use Rattle.reach.proofs.Samples.{samplesOf, told, eight, narrow, u16s}
+use Rattle.reach.proofs.Samples.{samplesOf, Within, told, told-hidden, eight, narrow, u16s}
 
 -- each happening is one that a call can make
 unfoldable pub doable : Past → Bool
@@ -50,34 +56,40 @@ pub record Keys (past : Past) (z d : ℕ) (h : ℕ → Bool) (r : ℕ → ℕ) (
   pub its-waiting : waiting past ≡ w
   pub its-porirq : porirq past ≡ true
 
+abbrev pub none : ℕ → ℕ
+none _ = 0
+
 -- ---- a contact, with the smallest and the largest KBDBOUNCE
 at-once : Bool → Bool → Contact
 at-once held s = record { held = s; run = 0; changed = opposite held s }
 
-quick : (held : Bool) (run : ℕ) (s : Bool) → stepped held run s 1 ≡ at-once held s
-unfolding stepped opposite at-once
-quick true run true = refl
-quick false run false = refl
-quick true run false = rw (reached 1 run (omega arith)) refl
-quick false run true = rw (reached 1 run (omega arith)) refl
+-- if it is hidden, b, it is so already
+quick : (b held s : Bool) → (b ≡ true → held ≡ s) → stepped held 0 (sightOf b s) 1 ≡ at-once held s
+unfolding stepped sightOf sampled opposite at-once
+quick true true true e = refl
+quick true false false e = refl
+quick true true false e = true-false (e refl)
+quick true false true e = true-false (sym (e refl))
+quick false true true e = refl
+quick false false false e = refl
+quick false true false e = rw (reached 1 0 (omega arith)) refl
+quick false false true e = rw (reached 1 0 (omega arith)) refl
 
-unfoldable pub later : Bool → ℕ → Bool → Contact
-later held run s = record { held = held; run = cond (opposite held s) (run + 1) 0; changed = false }
+-- it stays as it is held
+unfoldable pub calm : Bool → ℕ → Contact
+calm held run = record { held = held; run = run; changed = false }
 
-pub slow : (held : Bool) (run : ℕ) (s : Bool) → run + 1 < 255 → stepped held run s 255 ≡ later held run s
-unfolding stepped opposite later
+pub unseen : (held : Bool) (run : ℕ) (s : Bool) (d : ℕ) → stepped held run (sightOf true s) d ≡ calm held run
+unfolding sightOf calm
+unseen held run s d = hidden-keeps held run d
+
+pub slow : (held : Bool) (run : ℕ) (s : Bool) → (opposite held s ≡ true → run + 1 < 255)
+    → stepped held run (sightOf false s) 255 ≡ calm held (cond (opposite held s) (run + 1) 0)
+unfolding stepped sightOf sampled opposite calm
 slow true run true h = refl
 slow false run false h = refl
-slow true run false h = rw (ahead 255 run h) refl
-slow false run true h = rw (ahead 255 run h) refl
-
-module _ (s : List ℕ) (past : Past) (k : ℕ) where
-  unfoldable pub made : Contact
-  made = record { held = held k (looked s ∷ past); run = run k (looked s ∷ past); changed = changed k s past }
-
-  pub contact-right : stepped (held k past) (run k past) (sample s (size past) k) (bounce past) ≡ made
-  unfolding made held run history changed
-  contact-right = run-enough (record { bounce = bounce past; closed = sample s (size past) k }) (history k past)
+slow true run false h = rw (ahead 255 run (h refl)) refl
+slow false run true h = rw (ahead 255 run (h refl)) refl
 
 -- ---- the changes of a look
 module _ (s : List ℕ) (past : Past) where
@@ -106,56 +118,71 @@ module _ (s : List ℕ) (past : Past) where
     unfolding changes
     one-change l = one-below 104 l (le-refl 104)
 
--- ---- a look under KBDBOUNCE 1
--- no key out of the size
-abbrev pub Within : ℕ → (ℕ → Bool) → Type 0
-Within z h = (k : ℕ) → k < 104 → keyIn z k ≡ false → h k ≡ false
-
+-- ---- a look, by the keys that it closes
 pub look-can : (f : ℕ → Bool) (past : Past) → doable past ≡ true → doable (looked (samplesOf f) ∷ past) ≡ true
 unfolding doable
 look-can f past e = rw (eq-eqb (length (samplesOf f)) 8 (eight f), narrow f, u16s f) e
 
-module _ (past : Past) (z : ℕ) (h : ℕ → Bool) (r : ℕ → ℕ) (w : List ℕ) where
-  pub within : (d : ℕ) → Keys past z d h r w → Within z h
-  within d t k l o = sym (t .its-held k l) ∙ out-open past k (ap (λ (x : ℕ). keyIn x k) (t .its-size) ∙ o) .0
+module _ (past : Past) (z d : ℕ) (h : ℕ → Bool) (r : ℕ → ℕ) (w : List ℕ) (t : Keys past z d h r w) (f : ℕ → Bool) (ok : Within z f) (k : ℕ) (l : k < 104) where
+  sees : sample (samplesOf f) (size past) k ≡ f k
+  sees = ap (λ (x : ℕ). sample (samplesOf f) x k) (t .its-size) ∙ told f z k l (ok k l)
 
-  module _ (f : ℕ → Bool) (ok : Within z f) where
-    pub sees : (d : ℕ) → Keys past z d h r w → (k : ℕ) → k < 104 → sample (samplesOf f) (size past) k ≡ f k
-    sees d t k l = ap (λ (x : ℕ). sample (samplesOf f) x k) (t .its-size) ∙ told f z k l (ok k l)
+  pub known-made : contactOf (samplesOf f) past k ≡ stepped (h k) (r k) (sightOf (hidden (samplesOf f) z k) (f k)) d
+  unfolding run
+  known-made =
+      sym (contact-right (samplesOf f) past k)
+      ∙ (λ i. stepped (t .its-held k l i) (t .its-run k l i) (sightOf (hidden (samplesOf f) (t .its-size i) k) (sees i)) (t .its-bounce i))
 
-    quick-made : Keys past z 1 h r w → (k : ℕ) → k < 104 → made (samplesOf f) past k ≡ at-once (h k) (f k)
-    quick-made t k l =
-        sym (contact-right (samplesOf f) past k)
-        ∙ (λ i. stepped (t .its-held k l i) (t .its-run k l i) (sees 1 t k l i) (t .its-bounce i))
-        ∙ quick (h k) (r k) (f k)
+-- ---- a look under KBDBOUNCE 1
+-- what is hidden is already as f says
+abbrev pub Clear : ℕ → (ℕ → Bool) → (ℕ → Bool) → Type 0
+Clear z h f = (k : ℕ) → k < 104 → hidden (samplesOf f) z k ≡ true → h k ≡ f k
 
-    pub quick-changed : Keys past z 1 h r w → (k : ℕ) → k < 104 → changed k (samplesOf f) past ≡ opposite (h k) (f k)
-    unfolding made at-once
-    quick-changed t k l = ap (λ (x : Contact). x .changed) (quick-made t k l)
+module _ (z : ℕ) (h f : ℕ → Bool) where
+  pub clear-open : Within z f → ((k : ℕ) → k < 104 → ltb (colOf k) 12 ≡ false → f k ≡ false) → Clear z h f
+  clear-open ok shut k l e =
+      let closed = and-right (ltb (colOf k) 12) (f (special k)) (sym (told-hidden f z k l ok) ∙ e) in
+      true-false (sym closed ∙ shut (special k) (special-low k l) (ap (λ (x : ℕ). ltb x 12) (special-col k l)))
 
-    -- the look: every key is at once as f says
-    pub look-to : (w′ : List ℕ) → Keys past z 1 h r w → take 15 (w ++ changes (samplesOf f) past) ≡ w′ → Keys (looked (samplesOf f) ∷ past) z 1 f (λ _. 0) w′
-    unfolding made at-once size bounce waiting porirq
-    look-to w′ t e =
-        record {
-          can = look-can f past (t .can);
-          its-size = t .its-size;
-          its-bounce = t .its-bounce;
-          its-held = λ k l. ap (λ (x : Contact). x .held) (quick-made t k l);
-          its-run = λ k l. ap (λ (x : Contact). x .run) (quick-made t k l);
-          its-waiting = ap (λ (x : List ℕ). take 15 (x ++ changes (samplesOf f) past)) (t .its-waiting) ∙ e;
-          its-porirq = t .its-porirq;
-        }
+  pub clear-one : (k : ℕ) → hidden (samplesOf f) z k ≡ false → ((j : ℕ) → (j ≡ k → ⊥) → f j ≡ h j) → Clear z h f
+  clear-one k seen same j l e = go (ℕ-discrete j k)
+    where
+      go : Dec (j ≡ k) → h j ≡ f j
+      go (yes p) = true-false (sym e ∙ ap (hidden (samplesOf f) z) p ∙ seen)
+      go (no n) = sym (same j n)
 
-    -- if 15 wait, every change is dropped
-    pub look-full : Keys past z 1 h r w → length w ≡ 15 → Keys (looked (samplesOf f) ∷ past) z 1 f (λ _. 0) w
-    look-full t n =
-        let c = changes (samplesOf f) past in
-        let o : 15 - length w ≡ 0 = omega arith in
-        look-to w t (take-room 15 w c (omega arith) ∙ ap (λ (x : ℕ). w ++ take x c) o ∙ append-nil w)
+module _ (past : Past) (z : ℕ) (h : ℕ → Bool) (w : List ℕ) (t : Keys past z 1 h none w) (f : ℕ → Bool) (ok : Within z f) (clear : Clear z h f) where
+  quick-made : (k : ℕ) → k < 104 → contactOf (samplesOf f) past k ≡ at-once (h k) (f k)
+  quick-made k l = known-made past z 1 h none w t f ok k l ∙ quick (hidden (samplesOf f) z k) (h k) (f k) (clear k l)
 
-    -- one key is not as f says
-    pub look-one : Keys past z 1 h r w → (k : ℕ) → k < 104 → (f k ≡ not (h k)) → ((j : ℕ) → (j ≡ k → ⊥) → f j ≡ h j) → changes (samplesOf f) past ≡ code k (f k) ∷ []
-    look-one t k l e same =
-        one-change (samplesOf f) past k (quick-changed t k l ∙ ap (opposite (h k)) e ∙ opposite-flips (h k)) (λ j m n. quick-changed t j m ∙ ap (opposite (h j)) (same j n) ∙ opposite-stays (h j)) l
-        ∙ ap (λ (b : Bool). code k b ∷ []) (sees 1 t k l)
+  quick-changed : (k : ℕ) → k < 104 → changed k (samplesOf f) past ≡ opposite (h k) (f k)
+  unfolding contactOf at-once
+  quick-changed k l = ap (λ (x : Contact). x .changed) (quick-made k l)
+
+  -- the look: every key is at once as f says
+  pub look-to : (w′ : List ℕ) → take 15 (w ++ changes (samplesOf f) past) ≡ w′ → Keys (looked (samplesOf f) ∷ past) z 1 f none w′
+  unfolding contactOf run at-once size bounce waiting porirq
+  look-to w′ e =
+      record {
+        can = look-can f past (t .can);
+        its-size = t .its-size;
+        its-bounce = t .its-bounce;
+        its-held = λ k l. ap (λ (x : Contact). x .held) (quick-made k l);
+        its-run = λ k l. ap (λ (x : Contact). x .run) (quick-made k l);
+        its-waiting = ap (λ (x : List ℕ). take 15 (x ++ changes (samplesOf f) past)) (t .its-waiting) ∙ e;
+        its-porirq = t .its-porirq;
+      }
+
+  -- if 15 wait, every change is dropped
+  pub look-full : length w ≡ 15 → Keys (looked (samplesOf f) ∷ past) z 1 f none w
+  look-full n =
+      let c = changes (samplesOf f) past in
+      let o : 15 - length w ≡ 0 = omega arith in
+      look-to w (take-room 15 w c (omega arith) ∙ ap (λ (x : ℕ). w ++ take x c) o ∙ append-nil w)
+
+  -- one key is not as f says
+  pub look-one : (k : ℕ) → k < 104 → (f k ≡ not (h k)) → ((j : ℕ) → (j ≡ k → ⊥) → f j ≡ h j) → changes (samplesOf f) past ≡ code k (f k) ∷ []
+  look-one k l e same =
+      one-change (samplesOf f) past k (quick-changed k l ∙ ap (opposite (h k)) e ∙ opposite-flips (h k))
+      (λ j m n. quick-changed j m ∙ ap (opposite (h j)) (same j n) ∙ opposite-stays (h j)) l
+      ∙ ap (λ (b : Bool). code k b ∷ []) (sees past z 1 h none w t f ok k l)

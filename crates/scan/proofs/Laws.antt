@@ -4,6 +4,8 @@
 --    below-more                 one key more
 --    below-queue, below-some    what one key more does to the queue, and to whether there is a change
 --    out-rests                  an open contact with no run, out of the size, stays so
+--    hidden-keeps               a key that is hidden at a look keeps how it is held and its run, and doesn't change
+--    changed-sample             a key that changes is held as its sample says
 --    looked-noticed             the state after a look: keys and queue, and the flags if there is a change
 -- Assumes nothing.
 use Prim.Native.Nat.{ℕ, _+_}
@@ -15,14 +17,15 @@ use lib.ListN.{getD}
 use Rattle.words.specs.Words.{_if_, _else_, some}
 use Rattle.words.proofs.Laws.{true-false}
 use Rattle.words.proofs.Lists.{some-append}
-use Rattle.keys.specs.Keys.{code, keyIn, sample}
+use Rattle.keys.specs.Keys.{code, keyIn, sample, hidden}
 use Rattle.keys.proofs.Laws.{sample-out}
-use Rattle.contact.specs.Contact.{opposite, stepped}
+use Rattle.contact.specs.Contact.{stepped, sightOf}
+use Rattle.contact.proofs.Laws.{step-rests, step-changed}
 use Rattle.state.specs.declared.Module.{Module}
 use Rattle.state.specs.Module.{Queue, queueOf, withQueue}
 use Rattle.state.specs.Queue.{put, putAll}
 use Rattle.state.proofs.Laws.{putAll-snoc}
-use Rattle.scan.specs.Scan.{contactAt, changesBelow, changes, contacts, noticed, looked}
+use Rattle.scan.specs.Scan.{sight, contactAt, changesBelow, changes, contacts, noticed, looked}
 
 -- of one code more, or none
 putAll-if : (q : Queue) (cs : List ℕ) (c : ℕ) (b : Bool) → putAll q (cs ++ ((c ∷ []) if b else [])) ≡ (put (putAll q cs) c if b else putAll q cs)
@@ -41,10 +44,18 @@ putAll-none q (c ∷ cs) e = true-false e
 
 module _ (m : Module) (s : List ℕ) where
   module _ (k : ℕ) where
-    -- its sample counts as open
+    -- its sample counts as open, or doesn't exist
     pub out-rests : keyIn (m .size) k ≡ false → getD (m .held) k false ≡ false → getD (m .run) k 0 ≡ 0 → contactAt m s k ≡ record { held = false; run = 0; changed = false }
-    unfolding contactAt stepped opposite
-    out-rests out still none = rw (still, none, sample-out s (m .size) k out)
+    unfolding contactAt sight
+    out-rests out still none = rw (still, none, sample-out s (m .size) k out) (step-rests (hidden s (m .size) k) (m .bounce))
+
+    pub hidden-keeps : hidden s (m .size) k ≡ true → contactAt m s k ≡ record { held = getD (m .held) k false; run = getD (m .run) k 0; changed = false }
+    unfolding contactAt sight sightOf stepped
+    hidden-keeps e = rw e
+
+    pub changed-sample : contactAt m s k .changed ≡ true → contactAt m s k .held ≡ sample s (m .size) k
+    unfolding contactAt sight
+    changed-sample = step-changed (hidden s (m .size) k) (getD (m .held) k false) (getD (m .run) k 0) (sample s (m .size) k) (m .bounce)
 
     pub below-more : changesBelow m s (k + 1) ≡ changesBelow m s k ++ ((code k (sample s (m .size) k) ∷ []) if contactAt m s k .changed else [])
     unfolding changesBelow

@@ -1,6 +1,8 @@
 -- The code's walk over the keys, row by row.
 --
---    row-none, row-next   a row before its first key, and from one key to the next
+--    hidden-same          a key that is hidden leaves all as it is
+--    first-low            the first key that is shown is one of the row
+--    row-none, row-next   a row before the first key that is shown, and from one key to the next
 --    rows-none, rows-next    the rows before the first, and from one to the next
 --    done m s k           what a look alters, once the keys below k are done
 --    done-none            before the first key
@@ -12,32 +14,62 @@
 use Prim.Native.Nat.{ℕ, zero, suc, _+_, _-_, _*_, _/_, _<_, _≤_}
 use native.Mathlib.Numerals.{add-one, unary-clauses}
 use native.Mathlib.Omega.{arith}
+use native.Mathlib.Decide.{decLt}
 use mathlib.Core.Path.{_≡_, refl, sym, ap, _∙_}
-use mathlib.Core.Bool.{Bool, false, or-false}
+use mathlib.Core.Bool.{Bool, true, false, _&&_, cond, or-false, and-false}
 use mathlib.Core.List.{List}
 use lib.ListN.{length, getD, set}
 use lib.Seq.{set-getD}
-use borrow.Author.Tests.{le-ltb}
+use borrow.Author.Tests.{lt-ltb, le-ltb}
+use lib.Dec.{ltb}
 use Rattle.words.specs.Words.{_if_, _else_, some, table}
+use Rattle.words.proofs.Lists.{by-test}
 use Rattle.words.proofs.Tables.{replaced, replaced-none, replaced-all, replaced-at, replaced-next}
-use Rattle.keys.specs.Keys.{inSize, keyIn, sample}
-use Rattle.keys.proofs.Laws.{place-row, place-col, row-yes}
-use Rattle.contact.specs.Contact.{stepped}
+use Rattle.keys.specs.Keys.{code, inSize, keyIn, sample, hidden}
+use Rattle.keys.proofs.Laws.{place-row, place-col, row-yes, hidden-matrix, hidden-special}
+use Rattle.contact.specs.declared.Sight.{Sight}
+use Rattle.contact.specs.declared.Sight.the-variants.{Hidden}
+use Rattle.contact.specs.Contact.{stepped, sightOf}
 use Rattle.state.specs.declared.Module.{Module}
-use Rattle.state.specs.Module.{queueOf, withKeys, withQueue}
-use Rattle.state.specs.Queue.{putAll}
-use Rattle.scan.specs.Scan.{contactAt, changesBelow, changes, contacts, noticed, looked}
-use Rattle.scan.specs.Walk.{Parts, parts, counted, became, atKey, atRow, atRows, Still}
-use Rattle.scan.proofs.Laws.{out-rests, below-queue, below-some, looked-noticed}
+use Rattle.state.specs.Module.{Queue, queueOf, withKeys, withQueue}
+use Rattle.state.specs.Queue.{put, putAll}
+use Rattle.scan.specs.Scan.{sight, contactAt, changesBelow, changes, contacts, noticed, looked}
+use Rattle.scan.specs.Walk.{Parts, parts, counted, shows, firstShown, became, atKey, atRow, atRows, Still}
+use Rattle.scan.proofs.Laws.{out-rests, changed-sample, below-queue, below-some, looked-noticed}
+
+hidden-same : (d k : ℕ) (p : Parts) → atKey d k Hidden p ≡ p
+unfolding atKey stepped
+hidden-same d k p = λ i. parts (set-getD (p .held) k false i) (set-getD (p .run) k 0 i) (p .queue) (or-false (p .any) i)
 
 module _ (d size x row : ℕ) (p : Parts) where
-  pub row-none : p ≡ atRow d size x row p 0
-  unfolding atRow
-  row-none = refl
+  -- while the special function contact is closed
+  hidden-row : counted x size row 12 ≡ true → (n : ℕ) → n ≤ 12 → atRow d size x row p n ≡ p
+  unfolding atRow shows sightOf
+  hidden-row e zero l = refl
+  hidden-row e (suc n) l =
+      rw (e, lt-ltb n 12 (omega arith)) (ap (atKey d (13 * row + n) Hidden) (hidden-row e n (omega arith)) ∙ hidden-same d (13 * row + n) p)
 
-  pub row-next : (col : ℕ) {q r : Parts} {closed : Bool} → q ≡ atRow d size x row p col → closed ≡ counted x size row col → r ≡ atKey d (13 * row + col) closed q → r ≡ atRow d size x row p (col + 1)
+  pub first-low : firstShown x size row ≤ 12
+  unfolding firstShown
+  first-low = by-test (λ t. cond t 12 0 ≤ 12) (counted x size row 12) (λ _. omega arith) (λ _. omega arith)
+
+  pub row-none : p ≡ atRow d size x row p (firstShown x size row)
+  unfolding atRow firstShown
+  row-none =
+      by-test (λ t. counted x size row 12 ≡ t → p ≡ atRow d size x row p (cond t 12 0)) (counted x size row 12)
+      (λ e _. sym (hidden-row e 12 (omega arith))) (λ _ _. refl) refl
+
+  -- from there on every key is in sight
+  in-sight : (col : ℕ) → firstShown x size row ≤ col → shows x size row col ≡ sightOf false (counted x size row col)
+  unfolding shows firstShown
+  in-sight col =
+      by-test (λ t. cond t 12 0 ≤ col → sightOf (ltb col 12 && t) (counted x size row col) ≡ sightOf false (counted x size row col)) (counted x size row 12)
+      (λ _ l. rw (le-ltb col 12 l)) (λ _ _. rw (and-false (ltb col 12)))
+
+  pub row-next : (col : ℕ) {q r : Parts} {o : Sight} → firstShown x size row ≤ col → q ≡ atRow d size x row p col
+      → o ≡ sightOf false (counted x size row col) → r ≡ atKey d (13 * row + col) o q → r ≡ atRow d size x row p (col + 1)
   unfolding atRow
-  row-next col e f g = rw (add-one col) (g ∙ (λ i. atKey d (13 * row + col) (f i) (e i)))
+  row-next col l e f g = rw (add-one col) (g ∙ (λ i. atKey d (13 * row + col) ((f ∙ sym (in-sight col l)) i) (e i)))
 
 module _ (d size : ℕ) (s : List ℕ) (p : Parts) where
   pub rows-none : p ≡ atRows d size s p 0
@@ -58,27 +90,45 @@ module _ (m : Module) (s : List ℕ) where
 
   module _ (k : ℕ) (in-held : k < length (m .held)) (in-run : k < length (m .run)) where
     -- the step from the arrays as they are now is the step from the module's own
-    step-now : stepped (getD (done m s k .held) k false) (getD (done m s k .run) k 0) (sample s (m .size) k) (m .bounce) ≡ contactAt m s k
+    step-now : stepped (getD (done m s k .held) k false) (getD (done m s k .run) k 0) (sight s (m .size) k) (m .bounce) ≡ contactAt m s k
     unfolding contactAt
     step-now = rw (replaced-at (λ j. contactAt m s j .held) (m .held) k in-held false, replaced-at (λ j. contactAt m s j .run) (m .run) k in-run 0)
 
-    done-next : atKey (m .bounce) k (sample s (m .size) k) (done m s k) ≡ done m s (k + 1)
+    -- a change's code is told by how the key is then held, or by its sample
+    done-queue : (q : Queue) → (put q (code k (contactAt m s k .held)) if contactAt m s k .changed else q) ≡ (put q (code k (sample s (m .size) k)) if contactAt m s k .changed else q)
+    done-queue q =
+        by-test (λ t. contactAt m s k .changed ≡ t → cond t (put q (code k (contactAt m s k .held))) q ≡ cond t (put q (code k (sample s (m .size) k))) q) (contactAt m s k .changed)
+        (λ e _. ap (λ (b : Bool). put q (code k b)) (changed-sample m s k e)) (λ _ _. refl) refl
+
+    done-next : atKey (m .bounce) k (sight s (m .size) k) (done m s k) ≡ done m s (k + 1)
     unfolding atKey
     done-next =
-        ap (became k (sample s (m .size) k) (done m s k)) step-now
-        ∙ (λ i. parts (replaced-next (λ j. contactAt m s j .held) (m .held) k in-held i) (replaced-next (λ j. contactAt m s j .run) (m .run) k in-run i) (sym (below-queue m s k (queueOf m)) i) (sym (below-some m s k) i))
+        ap (became k (done m s k)) step-now
+        ∙ (λ i. parts (replaced-next (λ j. contactAt m s j .held) (m .held) k in-held i) (replaced-next (λ j. contactAt m s j .run) (m .run) k in-run i)
+        ((done-queue (putAll (queueOf m) (changesBelow m s k)) ∙ sym (below-queue m s k (queueOf m))) i) (sym (below-some m s k) i))
 
   module _ (row : ℕ) (h : row < 8) where
     row-sample : (col : ℕ) → col < 13 → counted (getD s row 0) (m .size) row col ≡ sample s (m .size) (13 * row + col)
     unfolding counted sample keyIn
     row-sample col l = rw (place-row row col (omega arith) (omega arith), place-col row col (omega arith) (omega arith))
 
+    row-hidden : (col : ℕ) → col < 13 → (ltb col 12 && counted (getD s row 0) (m .size) row 12) ≡ hidden s (m .size) (13 * row + col)
+    row-hidden col l = rw (row-sample 12 (omega arith)) (go (decLt col 12))
+      where
+        go : Dec (col < 12) → (ltb col 12 && sample s (m .size) (13 * row + 12)) ≡ hidden s (m .size) (13 * row + col)
+        go (yes c) = rw (lt-ltb col 12 c) (sym (hidden-matrix s (m .size) row (omega arith) col c))
+        go (no c) = let last : col ≡ 12 = omega arith in rw last (sym (hidden-special s (m .size) row (omega arith)))
+
+    row-sight : (col : ℕ) → col < 13 → shows (getD s row 0) (m .size) row col ≡ sight s (m .size) (13 * row + col)
+    unfolding shows sight
+    row-sight col l = λ i. sightOf (row-hidden col l i) (row-sample col l i)
+
     module _ (long-held : length (m .held) ≡ 104) (long-run : length (m .run) ≡ 104) where
       done-below : (n : ℕ) → n ≤ 13 → atRow (m .bounce) (m .size) (getD s row 0) row (done m s (13 * row)) n ≡ done m s (13 * row + n)
       unfolding atRow
       done-below zero l = simp unary-clauses
       done-below (suc n) l =
-          (λ i. atKey (m .bounce) (13 * row + n) (row-sample n (omega arith) i) (done-below n (omega arith) i))
+          (λ i. atKey (m .bounce) (13 * row + n) (row-sight n (omega arith) i) (done-below n (omega arith) i))
           ∙ done-next (13 * row + n) (omega arith) (omega arith) ∙ ap (done m s) (omega arith)
 
       done-row : atRow (m .bounce) (m .size) (getD s row 0) row (done m s (13 * row)) 13 ≡ done m s (13 * suc row)
@@ -103,7 +153,7 @@ module _ (m : Module) (s : List ℕ) where
       unfolding atKey
       done-still =
           (λ i. parts (sym (stays-held) i) (sym (stays-run) i) (putAll (queueOf m) (changesBelow m s k)) (sym (or-false (some (changesBelow m s k))) i))
-          ∙ ap (became k (sample s (m .size) k) (done m s k)) (sym (step-now k (omega arith) (omega arith) ∙ at-rest)) ∙ done-next k (omega arith) (omega arith)
+          ∙ ap (became k (done m s k)) (sym (step-now k (omega arith) (omega arith) ∙ at-rest)) ∙ done-next k (omega arith) (omega arith)
         where
           stays-held : set (done m s k .held) k false ≡ done m s k .held
           stays-held = ap (set (done m s k .held) k) (sym (replaced-at (λ j. contactAt m s j .held) (m .held) k (omega arith) false ∙ still .keys k h out .0)) ∙ set-getD (done m s k .held) k false

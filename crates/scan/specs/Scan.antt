@@ -1,6 +1,7 @@
 -- What one look does to a module.
 --
---    contactAt m s k     what the look with samples s makes of key k's contact
+--    sight s size k      what the look with samples s shows of key k's contact: nothing if it is hidden, else its sample
+--    contactAt m s k     what the look makes of it
 --    changesBelow m s n  the codes of the changes of the keys below n, by row, then by column
 --    changes m s         the codes of all the look's changes
 --    contacts m s        the state with every key's contact as the look makes it
@@ -11,15 +12,19 @@ use mathlib.Core.Bool.{true, false, _||_}
 use mathlib.Core.List.{List, [], _∷_, _++_}
 use lib.ListN.{getD}
 use Rattle.words.specs.Words.{_if_, _else_, some, table}
-use Rattle.keys.specs.Keys.{code, sample}
+use Rattle.keys.specs.Keys.{code, sample, hidden}
 use Rattle.contact.specs.declared.Contact.{Contact}
-use Rattle.contact.specs.Contact.{stepped}
+use Rattle.contact.specs.declared.Sight.{Sight}
+use Rattle.contact.specs.Contact.{stepped, sightOf}
 use Rattle.state.specs.declared.Module.{Module}
 use Rattle.state.specs.Module.{forgotten, queueOf, withKeys, withQueue, withRsint, withRklint, withSeen}
 use Rattle.state.specs.Queue.{putAll}
 
+unfoldable pub sight : List ℕ → ℕ → ℕ → Sight
+sight s size k = sightOf (hidden s size k) (sample s size k)
+
 unfoldable pub contactAt : Module → List ℕ → ℕ → Contact
-contactAt m s k = stepped (getD (m .held) k false) (getD (m .run) k 0) (sample s (m .size) k) (m .bounce)
+contactAt m s k = stepped (getD (m .held) k false) (getD (m .run) k 0) (sight s (m .size) k) (m .bounce)
 
 -- "The changes of one look are taken by row, then by column."
 unfoldable pub changesBelow : Module → List ℕ → ℕ → List ℕ

@@ -2,7 +2,9 @@
 --
 --    Parts, parts h r q a         what a look alters: the keys held, their runs, the queue, and whether a key has changed
 --    counted x size row col       a key's sample, x being its row's
---    atKey d k closed p           the parts p after key k's sample, d being the bounce
+--    shows x size row col         what the look shows of the key
+--    firstShown x size row        the row's first column that the look shows
+--    atKey d k sight p            the parts p after a look at key k, d being the bounce
 --    atRow d size x row p n       the parts p after the row's keys in columns below n
 --    atRows d size s p n          the parts p after the rows below n, s being the samples
 --    Altered, altered h r q rs rk seen    all that a look can alter: the parts, but for whether a key has changed, and the flags and marks
@@ -11,13 +13,15 @@
 --    Still size held run          every key out of the size is open and has no run, and there are at most 8 rows
 use Prim.Native.Nat.{ℕ, zero, suc, _+_, _*_, _/_, _≤_, _<_}
 use mathlib.Core.Path.{_≡_}
-use mathlib.Core.Bool.{Bool, false, _||_}
+use mathlib.Core.Bool.{Bool, false, _&&_, _||_}
 use mathlib.Core.List.{List}
 use lib.ListN.{getD, set}
+use lib.Dec.{ltb}
 use Rattle.words.specs.Words.{_if_, _else_, bit}
 use Rattle.keys.specs.Keys.{code, inSize, keyIn}
 use Rattle.contact.specs.declared.Contact.{Contact}
-use Rattle.contact.specs.Contact.{stepped}
+use Rattle.contact.specs.declared.Sight.{Sight}
+use Rattle.contact.specs.Contact.{stepped, sightOf}
 use Rattle.state.specs.declared.Module.{Module}
 use Rattle.state.specs.Module.{Queue, keys, settings, flags, made}
 use Rattle.state.specs.Queue.{put}
@@ -35,18 +39,24 @@ parts held run queue any = record { held = held; run = run; queue = queue; any =
 unfoldable pub counted : ℕ → ℕ → ℕ → ℕ → Bool
 counted x size row col = bit col x if inSize size row col else false
 
--- the parts p, key k's contact having become x
-abbrev pub became : ℕ → Bool → Parts → Contact → Parts
-became k closed p x =
-    parts (set (p .held) k (x .held)) (set (p .run) k (x .run))
-    (put (p .queue) (code k closed) if x .changed else p .queue) (p .any || x .changed)
+unfoldable pub shows : ℕ → ℕ → ℕ → ℕ → Sight
+shows x size row col = sightOf (ltb col 12 && counted x size row 12) (counted x size row col)
 
-unfoldable pub atKey : ℕ → ℕ → Bool → Parts → Parts
-atKey d k closed p = became k closed p (stepped (getD (p .held) k false) (getD (p .run) k 0) closed d)
+unfoldable pub firstShown : ℕ → ℕ → ℕ → ℕ
+firstShown x size row = 12 if counted x size row 12 else 0
+
+-- the parts p, key k's contact having become x
+abbrev pub became : ℕ → Parts → Contact → Parts
+became k p x =
+    parts (set (p .held) k (x .held)) (set (p .run) k (x .run))
+    (put (p .queue) (code k (x .held)) if x .changed else p .queue) (p .any || x .changed)
+
+unfoldable pub atKey : ℕ → ℕ → Sight → Parts → Parts
+atKey d k o p = became k p (stepped (getD (p .held) k false) (getD (p .run) k 0) o d)
 
 unfoldable pub atRow : ℕ → ℕ → ℕ → ℕ → Parts → ℕ → Parts
 atRow d size x row p zero = p
-atRow d size x row p (suc col) = atKey d (13 * row + col) (counted x size row col) (atRow d size x row p col)
+atRow d size x row p (suc col) = atKey d (13 * row + col) (shows x size row col) (atRow d size x row p col)
 
 unfoldable pub atRows : ℕ → ℕ → List ℕ → Parts → ℕ → Parts
 atRows d size s p zero = p

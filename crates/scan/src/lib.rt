@@ -1,14 +1,18 @@
 // What one look does to a module.
+use contact::Sight;
 use keys::COLS;
 use keys::Col;
 use keys::KEYS;
 use keys::ROW_KEYS;
 use keys::Row;
+use keys::SPECIAL;
 use state::Module;
 use state::PLACES;
 ghost use mathlib.Core.Path.{_≡_};
+ghost use mathlib.Core.Bool.{false};
 ghost use Prim.Native.Nat.{_<_, _≤_, _+_, _*_, _/_};
 ghost use lib.ListN.{length};
+ghost use Rattle.contact.specs.Contact.{sightOf};
 ghost use Rattle.state.specs.Module.{queue};
 ghost use Rattle.scan.specs.Scan.{looked};
 ghost use Rattle.scan.specs.Walk as walk;
@@ -26,6 +30,27 @@ fn is_closed(sample: u16, size: u8, row: Row, col: Col) -> bool
     (sample >> c) % 2 == 1
 }
 
+// How a key in sight reads, by its row's sample.
+fn reading(sample: u16, size: u8, row: Row, col: Col) -> Sight
+    requires { ⌜ col .0 < 13 ⌝ }
+    ensures { λ r. ⌜ r ≡ sightOf false (walk.counted sample size (row .0) (col .0)) ⌝ }
+{
+    if is_closed(sample, size, row, col) {
+        return Sight::Closed;
+    }
+    Sight::Open
+}
+
+// The first column of a row that a look shows: while its special function contact is closed, that one alone is in sight.
+fn first_shown(sample: u16, size: u8, row: Row) -> u8
+    ensures { λ r. ⌜ r ≡ walk.firstShown sample size (row .0) ⌝ }
+{
+    if is_closed(sample, size, row, Col(SPECIAL)) {
+        return SPECIAL;
+    }
+    0
+}
+
 // What a look does to one key, to the queue, and to whether a key has changed.
 fn look_at(
     held: &mut [bool; KEYS],
@@ -36,31 +61,31 @@ fn look_at(
     any: &mut bool,
     row: Row,
     col: Col,
-    closed: bool,
+    sight: Sight,
     bounce: u8,
 )
     requires { ⌜ (row .0 < 8) × (col .0 < 13) ⌝ }
     ensures { λ _. ⌜
         parts (now (held .exit)) (now (run .exit)) (queue (now (places .exit)) (now (count .exit)) (now (relint .exit))) (now (any .exit))
-        ≡ walk.atKey bounce (13 * row .0 + col .0) closed
+        ≡ walk.atKey bounce (13 * row .0 + col .0) sight
         (parts (now (held .entry)) (now (run .entry)) (queue (now (places .entry)) (now (count .entry)) (now (relint .entry))) (now (any .entry))) ⌝ }
 {
     let r = row.0;
     let c = col.0;
     let key = ROW_KEYS * (r as usize) + (c as usize);
-    let x = contact::step(held[key], run[key], closed, bounce);
+    let x = contact::step(held[key], run[key], sight, bounce);
     held[key] = x.held;
     run[key] = x.run;
     let changed = x.changed;
     if changed {
-        let code = keys::code_at(row, col, closed);
+        let code = keys::code_at(row, col, x.held);
         state::queue::put(places, count, relint, code);
         *any = true;
         return;
     }
 }
 
-// What a look does to the keys of a row, by column.
+// What a look does to the keys of a row, by column. Those that are hidden stay as they are, and are not walked.
 fn look_at_row(
     held: &mut [bool; KEYS],
     run: &mut [u8; KEYS],
@@ -79,9 +104,9 @@ fn look_at_row(
         ≡ walk.atRow bounce size sample row
         (parts (now (held .entry)) (now (run .entry)) (queue (now (places .entry)) (now (count .entry)) (now (relint .entry))) (now (any .entry))) 13 ⌝ }
 {
-    let mut col: u8 = 0;
+    let mut col = first_shown(sample, size, Row(row));
     while col < COLS {
-        let closed = is_closed(sample, size, Row(row), Col(col));
+        let sight = reading(sample, size, Row(row), Col(col));
         look_at(
             held,
             run,
@@ -91,7 +116,7 @@ fn look_at_row(
             any,
             Row(row),
             Col(col),
-            closed,
+            sight,
             bounce,
         );
         col = col + 1;

@@ -1,6 +1,8 @@
 pub mod Facts
 pub mod Arrivals
 pub mod Ledger
+pub mod Contacts
+pub mod Hidden
 pub mod Replay
 pub mod Loss
 pub mod Sizes

@@ -15,11 +15,11 @@ use mathlib.Core.Path.{_≡_, refl, sym, ap, _∙_}
 use mathlib.Core.Bool.{Bool, true, false, cond, not}
 use mathlib.Core.List.{List, [], _∷_, _++_}
 use Rattle.words.proofs.Laws.{and-both}
-use Rattle.keys.specs.Keys.{code, sample}
+use Rattle.keys.specs.Keys.{code, sample, hidden}
 use Rattle.keys.specs.Replay.{replayed, legalFrom, legal}
 use Rattle.keys.proofs.Replay.{told-same, told-other, replayed-append, legal-append, legal-one}
-use Rattle.contact.specs.Contact.{samples, heldAfter}
-use Rattle.contact.proofs.Laws.{changes-to}
+use Rattle.contact.specs.Contact.{Seen, heldAfter}
+use Rattle.contact.proofs.Laws.{sight-opposite, sight-turned, sight-kept}
 use Rattle.registers.specs.declared.Register.the-variants.{KBDSIZE}
 use Rattle.registers.specs.Registers.{_is_}
 use Rattle.sheet.specs.Sheet.{Past, looked, wrote, got, bounce, size, history, held, changed, change, changesBelow, changes, waiting}
@@ -29,17 +29,21 @@ use Rattle.sheet.proofs.Ledger.{none-lost}
 
 -- ---- one look
 module _ (s : List ℕ) (past : Past) where
+  -- the sample that key k has, if it has one
+  abbrev newest : ℕ → Seen
+  newest k = record { bounce = bounce past; closed = sample s (size past) k }
+
   pub change-opposite : (k : ℕ) → changed k s past ≡ true → sample s (size past) k ≡ not (held k past)
-  unfolding changed history samples
-  change-opposite k e = changes-to (bounce past) (held k past) (sample s (size past) k) (samples (history k past)) e
+  unfolding changed history held
+  change-opposite k = sight-opposite (hidden s (size past) k) (newest k) (history k past)
 
   pub held-changed : (k : ℕ) → changed k s past ≡ true → held k (looked s ∷ past) ≡ sample s (size past) k
-  unfolding held history heldAfter changed samples
-  held-changed k e = rw e (sym (change-opposite k e))
+  unfolding held history changed
+  held-changed k = sight-turned (hidden s (size past) k) (newest k) (history k past)
 
   pub held-same : (k : ℕ) → changed k s past ≡ false → held k (looked s ∷ past) ≡ held k past
-  unfolding held history heldAfter changed samples
-  held-same k e = rw e
+  unfolding held history changed
+  held-same k = sight-kept (hidden s (size past) k) (newest k) (history k past)
 
   -- another key's change says nothing of key k
   replay-other : (k n : ℕ) (was : Bool) → n < 104 → (n ≡ k → ⊥) → replayed k was (change n s past) ≡ was

@@ -18,16 +18,17 @@ use lib.Dec.{leb}
 use lib.ListN.{drop}
 use Rattle.words.specs.Words.{_if_, _else_, all}
 use Rattle.words.proofs.Laws.{true-false, and-left, and-right, all-cons}
-use Rattle.keys.specs.Keys.{keyOf, acceptable, keyIn, sample}
+use Rattle.keys.specs.Keys.{keyOf, acceptable, keyIn, sample, hidden}
 use Rattle.keys.proofs.Laws.{code-key, sample-out}
 use Rattle.contact.specs.declared.Contact.{Contact}
-use Rattle.contact.specs.Contact.{opposite, Seen, samples, heldAfter, runOf, stepped}
+use Rattle.contact.specs.Contact.{Seen, samples, heldAfter, runOf}
 use Rattle.contact.proofs.Laws as contact
 use Rattle.registers.specs.declared.Register.{Register}
 use Rattle.registers.specs.declared.Register.the-variants.{KBDBOUNCE, KBDSIZE, EVTCODE}
 use Rattle.registers.specs.Registers.{_is_}
 use Rattle.sheet.specs.Sheet.{Past, looked, wrote, got, bounce, size, history, held, changed, changes, waiting}
 use Rattle.words.proofs.Lists.{by-test, all-none, all-append, all-take, all-drop}
+use Rattle.sheet.proofs.Contacts.{contactOf, contact-right}
 use Rattle.sheet.proofs.Facts.{changes-all}
 
 -- ---- the bytes written
@@ -63,33 +64,16 @@ size-ok (wrote r b ∷ past) h =
 size-ok (got r ∷ past) h = size-ok past h
 
 -- ---- a key out of the size
--- an open contact that reads open stays as it is
-rest : Contact
+abbrev rest : Contact
 rest = record { held = false; run = 0; changed = false }
 
-step-rest : (d : ℕ) → stepped false 0 false d ≡ rest
-unfolding stepped opposite rest
-step-rest d = refl
-
-module _ (s : List ℕ) (past : Past) (k : ℕ) where
-  -- what the look makes of key k's contact
-  made : Contact
-  made =
-      record {
-        held = held k (looked s ∷ past);
-        run = runOf (held k (looked s ∷ past)) (samples (history k (looked s ∷ past)));
-        changed = changed k s past;
-      }
-
-  out-look : keyIn (size past) k ≡ false → held k past ≡ false → runOf (held k past) (samples (history k past)) ≡ 0 → made ≡ rest
-  unfolding made held history changed
-  out-look e h r =
-      sym (contact.run-enough (record { bounce = bounce past; closed = sample s (size past) k }) (history k past))
-      ∙ rw (r, h, sample-out s (size past) k e) (step-rest (bounce past))
+-- an open contact that reads open, or is hidden, stays as it is
+out-look : (s : List ℕ) (past : Past) (k : ℕ) → keyIn (size past) k ≡ false → held k past ≡ false → runOf (held k past) (samples (history k past)) ≡ 0 → contactOf s past k ≡ rest
+out-look s past k e h r = sym (contact-right s past k) ∙ rw (r, h, sample-out s (size past) k e) (contact.step-rests (hidden s (size past) k) (bounce past))
 
 -- "A key out of the size is simply not held", and nothing of it is remembered
 pub out-open : (past : Past) (k : ℕ) → keyIn (size past) k ≡ false → (held k past ≡ false) × (runOf (held k past) (samples (history k past)) ≡ 0)
-unfolding size history held heldAfter runOf samples made rest
+unfolding size history held heldAfter runOf samples contactOf
 out-open [] k e = (refl, refl)
 out-open (looked s ∷ past) k e =
     let i = out-open past k e in
@@ -102,7 +86,7 @@ out-open (wrote r b ∷ past) k e =
 out-open (got r ∷ past) k e = out-open past k e
 
 pub out-still : (s : List ℕ) (past : Past) (k : ℕ) → keyIn (size past) k ≡ false → changed k s past ≡ false
-unfolding made rest
+unfolding contactOf
 out-still s past k e = let i = out-open past k e in ap (λ (x : Contact). x .changed) (out-look s past k e (i .0) (i .1))
 
 pub changed-in : (s : List ℕ) (past : Past) (k : ℕ) → changed k s past ≡ true → keyIn (size past) k ≡ true
@@ -116,7 +100,9 @@ history-low : (past : Past) (k : ℕ) → writes byteLow past ≡ true → all s
 unfolding history writes byteLow
 history-low [] k h = all-none seenFits
 history-low (looked s ∷ past) k h =
-    all-cons seenFits (record { bounce = bounce past; closed = sample s (size past) k }) (history k past) (le-leb (bounce past) 255 (bounce-low past h)) (history-low past k h)
+    let x : Seen = record { bounce = bounce past; closed = sample s (size past) k } in
+    by-test (λ t. all seenFits (cond t (history k past) (x ∷ history k past)) ≡ true) (hidden s (size past) k) (λ e. history-low past k h)
+    (λ e. all-cons seenFits x (history k past) (le-leb (bounce past) 255 (bounce-low past h)) (history-low past k h))
 history-low (wrote r b ∷ past) k h =
     by-test (λ t. all seenFits (cond t [] (history k past)) ≡ true) (r is KBDSIZE) (λ e. all-none seenFits) (λ e. history-low past k (and-right (leb b 255) (writes byteLow past) h))
 history-low (got r ∷ past) k h = history-low past k h

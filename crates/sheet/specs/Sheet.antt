@@ -10,7 +10,7 @@
 --    8  the picture               heldBelow, nth, picture
 --    9  the byte of a register    oldest, byteOf
 --
--- What is quoted is document 01, in its order but for the settings, which come first.
+-- What is quoted is document 01, in its order but for the settings, which come first; and document 02, where it is named.
 -- A past has its newest happening first. Every table has the same four lines:
 -- after reset; after a look; after a byte was written; after a byte was read.
 -- `A if T else B` is A when T is true, else B. `l ++ m` is l, then m; `c ∷ l` is c, then l. `&&` is and, `||` is or.
@@ -20,7 +20,7 @@ use mathlib.Core.List.{List, [], _∷_, _++_}
 use lib.ListN.{length, getD, take, drop}
 use lib.Dec.{leb, ltb, eqb}
 use Rattle.words.specs.Words.{_if_, _else_, among, some, without}
-use Rattle.keys.specs.Keys.{code, sample}
+use Rattle.keys.specs.Keys.{code, sample, hidden}
 use Rattle.contact.specs.Contact as contact
 use Rattle.contact.specs.Contact.{Seen, samples, heldAfter}
 use Rattle.registers.specs.declared.Register.{Register}
@@ -76,10 +76,11 @@ mask (got r ∷ past) = mask past
 
 -- ---- 3  A KEY
 
--- key k's samples "since the restart", newest first, each with the KBDBOUNCE in force at its look
+-- key k's samples "since the restart" that exist, newest first, each with the KBDBOUNCE in force at its look. Document 02, E3:
+-- "While an SF contact in the size is closed in a look, that row's matrix samples don't exist for that look"
 unfoldable pub history : ℕ → Past → List Seen
 history k [] = []
-history k (looked s ∷ past) = record { bounce = bounce past; closed = sample s (size past) k } ∷ history k past
+history k (looked s ∷ past) = history k past if hidden s (size past) k else record { bounce = bounce past; closed = sample s (size past) k } ∷ history k past
 history k (wrote r b ∷ past) = [] if restarts r else history k past
 history k (got r ∷ past) = history k past
 
@@ -91,9 +92,10 @@ held k past = heldAfter (history k past)
 
 -- "At each look a key in the size changes exactly when its last D samples since the restart, this look included,
 -- exist and are all the opposite of what it was before this look. D is the value in force at this look;
--- samples taken under an older D still count." Out of the size none changes, since its samples count as open
+-- samples taken under an older D still count." Out of the size none changes, since its samples count as open. E3:
+-- "a key's last D samples are the last D that exist, and a key with none in a look doesn't change at it"
 unfoldable pub changed : ℕ → List ℕ → Past → Bool
-changed k s past = contact.changes (bounce past) (held k past) (samples (history k (looked s ∷ past)))
+changed k s past = false if hidden s (size past) k else contact.changes (bounce past) (held k past) (samples (history k (looked s ∷ past)))
 
 -- the code of key k's change, if it changes
 unfoldable pub change : ℕ → List ℕ → Past → List ℕ

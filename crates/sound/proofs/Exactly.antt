@@ -98,7 +98,7 @@ said-four seen h = go (allRead seen) refl
     go true e = absurd (h (marks-at seen e))
 
 -- ---- a key
-run-said : (size k : ℕ) (held : Bool) (run : ℕ) → keySound size k held run ≡ true → run ≤ 254
+pub run-said : (size k : ℕ) (held : Bool) (run : ℕ) → keySound size k held run ≡ true → run ≤ 254
 unfolding keySound
 run-said size k held run e = leb-true run 254 (and-right (keyIn size k || (not held && eqb run 0)) (leb run 254) e)
 

@@ -1,5 +1,6 @@
 //! Blocks of looks: whole ones, ones that stop at a look, and ones that are no number of looks.
 
+use super::direct::SF;
 use super::Maker;
 use crate::console::LONGEST;
 use crate::typed::sampled;
@@ -54,6 +55,7 @@ impl Maker {
         let count = self.chance.pick(&[MOST, some]);
         let mut samples = self.typing(count);
         samples.iter_mut().for_each(|sample| *sample &= 0x000F);
+        self.hide_long(&mut samples);
         if self.chance.one_in(2) {
             let half = samples.len() / 2;
             self.spoil(&mut samples[half..]);
@@ -110,6 +112,16 @@ impl Maker {
         samples
     }
 
+    /// Closes an SF contact in some of the looks, one after the other. Such a sample has three digits
+    /// more: as many fit on the line as there is room for, with one that is spoiled.
+    fn hide_long(&mut self, samples: &mut [u16]) {
+        let looks = samples.len() / 8;
+        let room = (LONGEST - "looks".len() - 16 * looks) / 3;
+        let count = self.chance.between(0, looks.min(room - 1));
+        let (row, first) = (self.chance.below(8), self.chance.between(0, looks - count));
+        samples.chunks_mut(8).skip(first).take(count).for_each(|look| look[row] |= SF);
+    }
+
     /// Sets high bits in one of the first eight samples, of the last eight, or of all.
     fn spoil(&mut self, samples: &mut [u16]) {
         let last = samples.len() - 1;
@@ -135,7 +147,7 @@ impl Maker {
             24..=25 => self.drain(),
             26 => self.write_some(0x02, 1),
             27 => self.write_some(0x02, 2),
-            28 if self.chance.one_in(8) => self.long_block(),
+            28 if self.chance.one_in(4) => self.long_block(),
             _ => self.clear(),
         }
         self.go_on_a_while();

@@ -100,7 +100,7 @@ impl Maker {
 
     /// A line with blanks behind it, so that it has about the longest length.
     pub(super) fn say_long(&mut self, line: String) {
-        let length = self.chance.pick(&[LONGEST - 1, LONGEST, LONGEST, LONGEST, LONGEST + 1]);
+        let length = self.chance.pick(&[LONGEST - 1, LONGEST - 1, LONGEST, LONGEST, LONGEST + 1]);
         self.lines.push(format!("{line:length$}").into_bytes());
     }
 }
@@ -146,7 +146,7 @@ impl Maker {
             17..=18 => self.play_damaged(),
             19 => self.carry_monotonous(),
             20 => self.carry_bytes(),
-            _ if self.chance.one_in(8) => self.carry_long(),
+            _ if self.chance.one_in(6) => self.carry_long(),
             _ => {}
         }
         self.go_on_a_while();

@@ -22,6 +22,11 @@ impl Maker {
     /// A finger presses a key, now and then one that is down.
     pub(super) fn press(&mut self) {
         let (row, column) = self.some_key();
+        self.press_at(row, column);
+    }
+
+    /// A finger presses this key.
+    pub(super) fn press_at(&mut self, row: usize, column: u32) {
         self.closed[row] |= 1 << column;
         self.finger("press", (row, column));
     }
@@ -34,6 +39,11 @@ impl Maker {
         } else {
             self.chance.pick(&down)
         };
+        self.release_at(row, column);
+    }
+
+    /// A finger lets this key go.
+    pub(super) fn release_at(&mut self, row: usize, column: u32) {
         self.closed[row] &= !(1 << column);
         self.finger("release", (row, column));
     }
@@ -101,8 +111,10 @@ impl Maker {
         self.wait_some();
     }
 
-    /// A reset under the fingers, now and then with the whole panel in use again.
+    /// A reset under the fingers, one of them anywhere, now and then with the whole panel in use again.
     fn reset_and_wait(&mut self) {
+        let (row, column) = (self.chance.below(8), self.chance.below(13) as u32);
+        self.press_at(row, column);
         self.reset();
         if self.chance.one_in(2) {
             self.write(0x02, &[1, 0x8C]);

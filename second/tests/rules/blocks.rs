@@ -1,6 +1,6 @@
 //! Blocks of looks (document 02, E2): what single looks give, in order, up to one that is declined.
 
-use crate::{after, repeated, seen, session};
+use crate::{after, repeated, seen, session, SAMPLES};
 use second::calls::{Call, Calls};
 use second::chance::Chance;
 use second::console::Console;
@@ -239,7 +239,7 @@ fn any_number_of_looks_is_counted() {
 
 /// A look, which is declined now and then.
 fn some_look(chance: &mut Chance) -> Vec<u16> {
-    let mut samples: Vec<u16> = (0..8).map(|_| chance.pick(&[0, 0, 1, 0x1000, 0x0FFF])).collect();
+    let mut samples: Vec<u16> = (0..8).map(|_| chance.pick(&SAMPLES)).collect();
     if chance.one_in(12) {
         samples[chance.below(8)] |= chance.pick(&[0x2000, 0x4000, 0x8000]);
     }

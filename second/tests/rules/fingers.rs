@@ -201,9 +201,9 @@ fn a_press_is_believed() {
         press 0 0 -> 0
         held 0 0 -> 0 yes
         press 1 sf -> 0
-        press 00 012 -> 0
         release 0 0 -> 0
-        read 10 5 -> 0 00 1C 0C 80 7F
+        press 00 012 -> 0
+        read 10 5 -> 0 00 1C 80 0C 7F
         release 1 SF -> 0
         release 0 Sf -> 0
         read 10 3 -> 0 9C 8C 7F

@@ -4,6 +4,7 @@ mod accesses;
 mod blocks;
 mod carry;
 mod fingers;
+mod hidden;
 mod language;
 mod playing;
 mod readings;
@@ -54,12 +55,18 @@ const SHOWING: [&str; 17] = [
     "wait 1",
 ];
 
-/// What a console shows of its panel and its contacts, with the keys held before and behind it.
+/// What a console shows of its panel and its contacts, with the keys held before and behind it, and
+/// again when no direct key hides its row.
 fn seen(console: &mut Console) -> Vec<String> {
     let keys = (0..8).flat_map(|row| (0..13).map(move |column| format!("held {row} {column}")));
-    let lines = keys.clone().chain(SHOWING.map(String::from)).chain(keys);
+    let showing = SHOWING.map(String::from).into_iter();
+    let releases = (0..8).map(|row| format!("release {row} SF"));
+    let lines = keys.clone().chain(showing).chain(keys.clone()).chain(releases).chain(keys);
     lines.map(|line| console.answer(line.as_bytes()).unwrap()).collect()
 }
+
+/// The samples of a row, some of them with its SF contact closed.
+const SAMPLES: [u16; 7] = [0, 0, 1, 0x1000, 0x1001, 0x1FFE, 0x0FFF];
 
 /// A line of one word and the same word many times after it.
 fn repeated(start: &str, word: &str, count: usize) -> String {

@@ -1,6 +1,6 @@
 //! Packed lists that are played, and sessions that are recorded as one.
 
-use crate::{after, digits, packed, seen, session, some_call, some_calls};
+use crate::{after, digits, packed, seen, session, some_call, some_calls, SAMPLES};
 use second::calls::Call;
 use second::carry::unpack;
 use second::chance::Chance;
@@ -23,7 +23,7 @@ fn a_list_plays_as_its_calls_do() {
                 1 => Call::Read(0x0B, chance.between(1, 5)),
                 2 => Call::Write(chance.pick(&[0x08, 0x09, 0x84]), vec![chance.byte()]),
                 3 => some_call(&mut chance),
-                _ => Call::Look((0..8).map(|_| chance.pick(&[0, 1, 0x1000, 0x0FFF])).collect()),
+                _ => Call::Look((0..8).map(|_| chance.pick(&SAMPLES)).collect()),
             });
         }
         let before = ["write 02 01 8C", "look 3 0 0 0 0 0 0 1000", "read 0B 2", "press 5 5"];

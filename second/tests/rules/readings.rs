@@ -50,11 +50,15 @@ fn no_change_falls_on_a_key_out_of_the_size() {
     session(
         "
         write 02 01 -> 0
+        look 0FFF 0FFF 1FFF 1FFF 1FFF 1FFF 1FFF 1FFF -> 0
+        read 10 5 -> 0 00 01 10 11 7F
         look 1FFF 1FFF 1FFF 1FFF 1FFF 1FFF 1FFF 1FFF -> 0
-        read 10 7 -> 0 00 01 0C 10 11 1C 7F
+        read 10 3 -> 0 0C 1C 7F
         look 0000 0000 1FFF 1FFF 1FFF 1FFF 1FFF 1FFF -> 0
         read 10 7 -> 0 80 81 8C 90 91 9C 7F
         write 03 33 -> 0
+        look 0FF8 0FF8 0FF8 1FFF 1FFF 1FFF 1FFF 1FFF -> 0
+        read 10 1 -> 0 7F
         look 1FF8 1FF8 1FF8 1FFF 1FFF 1FFF 1FFF 1FFF -> 0
         read 10 4 -> 0 0C 1C 2C 7F
         ",
@@ -207,10 +211,10 @@ fn changes_go_by_row_then_column() {
     session(
         "
         write 02 01 8C -> 0
-        look 0020 0000 0100 0000 0000 0000 0000 0000 -> 0
-        read 10 3 -> 0 05 28 7F
-        look 1008 0801 0001 0000 0000 0000 0000 1000 -> 0
-        read 10 9 -> 0 03 85 0C 10 1B 20 A8 7C 7F
+        look 0020 1000 0100 0000 0000 0000 0000 0000 -> 0
+        read 10 4 -> 0 05 1C 28 7F
+        look 0008 0801 0001 0000 0000 0000 0000 1000 -> 0
+        read 10 9 -> 0 03 85 10 1B 9C 20 A8 7C 7F
         ",
     );
 }
@@ -561,7 +565,7 @@ fn which_keys_can_be_asked() {
     session(
         "
         write 02 01 -> 0
-        look 1FFF 1FFF 1FFF 1FFF 1FFF 1FFF 1FFF 1FFF -> 0
+        look 0FFF 1FFF 1FFF 1FFF 1FFF 1FFF 1FFF 1FFF -> 0
         held 0 0 -> 0 yes
         held 1 12 -> 0 yes
         held 0 2 -> 0 no

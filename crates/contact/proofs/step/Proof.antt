@@ -1,34 +1,44 @@
--- `contact::step` meets its contract: each return rewrites with the tests that led there.
+-- `contact::step` meets its contract: an arm for what the look shows.
 -- Assumes nothing.
-use native.Mathlib.Omega.{arith}
+use mathlib.Core.Path.{sym, ap, _∙_}
 use borrow.Author.Needs.{needs}
-use Rattle.contact.specs.Contact.{opposite, stepped}
-use Rattle.contact.proofs.Laws.{other, reached, ahead}
+use Rattle.contact.specs.declared.Sight.{Sight}
+use Rattle.contact.specs.Contact.{stepped}
 use Rattle.contact.proofs.step.Statement.{statement}
 use Rattle.contact.proofs.step.Tie as tie
 
+enum-told : tie.Need-enum-told
+enum-told c = search needs
+
+enum-told-2 : tie.Need-enum-told-2
+enum-told-2 c = search needs
+
+sample-requires : tie.Need-sample-requires
+sample-requires c κs = search needs
+
+enum-told-3 : tie.Need-enum-told-3
+enum-told-3 c = search needs
+
+sample-requires-2 : tie.Need-sample-requires-2
+sample-requires-2 c κs = search needs
+
 returns : tie.Need-returns
-unfolding stepped opposite
-returns c = simp (c .if1 .taken)
+unfolding stepped
+returns c =
+    let a = c .before .before .args in
+    sym (ap (λ (x : Sight). stepped (a .held) (a .run) x (a .bounce)) (c .enum-told .given .1))
 
 returns-2 : tie.Need-returns-2
-unfolding stepped opposite
+unfolding stepped
 returns-2 c =
-    let a = c .before .before .args in
-    rw (c .before .if1 .left, reached (a .bounce) (a .run) (omega arith), other (a .closed) (a .held) (c .before .if1 .left))
-
-add-longer : tie.Need-add-longer
-add-longer c = search needs
+    let a = c .before .before .before .args in
+    c .sample .ensures ∙ sym (ap (λ (x : Sight). stepped (a .held) (a .run) x (a .bounce)) (c .before .enum-told2 .given .1))
 
 returns-3 : tie.Need-returns-3
-unfolding stepped opposite
+unfolding stepped
 returns-3 c =
     let a = c .before .before .before .args in
-    rw (c .before .before .if1 .left, reached (a .bounce) (a .run) (omega arith), other (a .closed) (a .held) (c .before .before .if1 .left))
-
-returns-4 : tie.Need-returns-4
-unfolding stepped opposite
-returns-4 c = rw (c .before .before .if1 .left, ahead _ _ (c .if3 .left))
+    c .sample2 .ensures ∙ sym (ap (λ (x : Sight). stepped (a .held) (a .run) x (a .bounce)) (c .before .enum-told3 .given .1))
 
 pub step-spec : {M : Type 1} → statement M
-step-spec = tie.close (tie.spec returns returns-2 add-longer returns-3 returns-4)
+step-spec = tie.close (tie.spec enum-told enum-told-2 sample-requires enum-told-3 sample-requires-2 returns returns-2 returns-3)

@@ -47,7 +47,7 @@ unfolding atKey
 returns c =
     let a = c .before .before .before .before .before .before .before .before .before .args in
     let coded = c .before .before .before .before in
-    let code = code-place (a .row .0) (a .col .0) (omega arith) (omega arith) (a .closed) ∙ sym (coded .code-at .ensures) in
+    let code = code-place (a .row .0) (a .col .0) (omega arith) (omega arith) (coded .before .before .step .result .held) ∙ sym (coded .code-at .ensures) in
     rw (← coded .before .before .step .ensures, coded .before .if1 .taken, code, c .put .ensures, or-true (a .any .now))
 
 returns-2 : tie.Need-returns-2
