@@ -7,11 +7,12 @@ failed() {
     exit 1
 }
 
-# The archive and the player's are built if they are missing or older than a source.
+# The archive, the player's and the group reader's are built if they are missing or older than a source.
 find_archive() {
-    archive=target/staticlib/libpanel.a player=target/staticlib/libplayer.a
+    archive=target/staticlib/libpanel.a player=target/staticlib/libplayer.a groups=target/staticlib/libgroups.a
     build_archive panel "$archive"
     build_archive player "$player"
+    build_archive groups "$groups"
 }
 
 # build_archive CRATE FILE
@@ -35,12 +36,12 @@ compile() {
 compile_all() {
     compile -O2 plain.c plain_O2.o -DPLAIN=plain_O2
     compile -O3 plain.c plain_O3.o -DPLAIN=plain_O3
-    for name in faces cases time step stack cost harness same lists where; do
+    for name in faces cases time step stack cost harness same lists groups where; do
         compile -O2 $name.c $name.o
     done
 }
 
-# join PROGRAM OBJECT..: the objects, the plain C and both archives as one program.
+# join PROGRAM OBJECT..: the objects, the plain C and the archives as one program.
 join() {
     program=$1
     shift
@@ -49,7 +50,7 @@ join() {
         objects="$objects $work/$name.o"
     done
     # shellcheck disable=SC2086
-    "$joiner" --target "$target" --toolchain "$tools" -o "$work/$program" $objects "$archive" "$player" >"$work/log" 2>&1 || failed "$program doesn't link"
+    "$joiner" --target "$target" --toolchain "$tools" -o "$work/$program" $objects "$archive" "$player" "$groups" >"$work/log" 2>&1 || failed "$program doesn't link"
     : >"$work/log"
 }
 

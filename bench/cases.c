@@ -5,7 +5,7 @@
 int printf(const char *format, ...);
 void *memset(void *to, int byte, size_t count);
 
-enum { STORM = 64, LISTED = 64, ROOM = 1024 };
+enum { STORM = 64, LISTED = 64, ROOM = 1024, CODES = 30000, LONG = 3000, SHORT = 300, MIDDLE = 145, TRIM = 0x3C, OTHER = 0x21 };
 
 /* The modules. */
 static struct panel calm;    /* size 8C, D 3, three keys held, nothing new */
@@ -52,6 +52,13 @@ static struct panel_call session[1 + LISTED];
 static uint8_t list[ROOM];
 static uint64_t list_length;
 
+/*
+ * Codes as they were fetched: a press of OTHER, which is never let go, then in turn six codes of a trim, with two ripples, and six of keys outside.
+ * Cut by the trim key, the six are one group and the others a group each; cut by OTHER, all of it is one open group.
+ */
+static uint8_t codes[CODES];
+static uint64_t ends[CODES];
+
 #define LOOKS(name, start, looks, count, number) {name, LOOK, &(start), (const uint16_t(*)[8])(looks), sizeof(looks) / sizeof((looks)[0]), 0, {0, 0}, count, 0, number}
 #define BLOCKS(name, start, looks, calls, count, number) {name, BLOCK, &(start), (const uint16_t(*)[8])(looks), calls, 0, {0, 0}, count, 0, number}
 #define READS(name, start, first, count, number) {name, READ, &(start), 0, 1, first, {0, 0}, count, 0, number}
@@ -59,6 +66,8 @@ static uint64_t list_length;
 #define ASKS(name, start, row, col, number) {name, HELD, &(start), 0, 1, row, {col, 0}, 0, 0, number}
 #define LINE(name, start, number) {name, INTERRUPT, &(start), 0, 1, 0, {0, 0}, 0, 0, number}
 #define CARRIES(name, call, calls, count, room, number) {name, call, &full, 0, calls, 0, {0, 0}, count, room, number}
+
+#define CUTS(name, call, trim, count, room, number) {name, call, &full, 0, 1, trim, {0, 0}, count, room, number}
 
 const struct measured cases[] = {
     LOOKS("look: calm", calm, calm_looks, 8, 0),
@@ -92,6 +101,12 @@ const struct measured cases[] = {
     CARRIES("unpack: a look", UNPACK, LISTED, 0, 0, 0),
     CARRIES("play: 64 looks", PLAY, 1, 0, 0, 0),
     CARRIES("play: declined 20", PLAY, 1, 1, 0, 20),
+    CUTS("undo: 300 codes walked", GROUPS, TRIM, SHORT, SHORT, 0),
+    CUTS("undo: 3,000 codes walked", GROUPS, TRIM, LONG, LONG, 0),
+    CUTS("undo: 30,000 codes walked", GROUPS, TRIM, CODES, CODES, 0),
+    CUTS("undo: 300 codes, all open", GROUPS, OTHER, SHORT, SHORT, 0),
+    CUTS("undo: the group at 145", GROUP, TRIM, SHORT, MIDDLE, 0),
+    CUTS("undo: its stretch", STRETCH, TRIM, SHORT, MIDDLE, 6),
     LOOKS("declined 1: look", calm, calm_looks, 7, 1),
     BLOCKS("declined 1: block", calm, long_typing, 1, 64 * 8 - 1, 1),
     LOOKS("declined 2: look", calm, high_looks, 8, 2),
@@ -112,6 +127,9 @@ const struct measured cases[] = {
     LINE("declined 8: interrupt", unsound, 8),
     CARRIES("declined 21: pack", PACK, 1, LISTED, 99, 21),
     CARRIES("declined 21: pack next", PACK_NEXT, 1, 0, 13, 21),
+    CUTS("declined 22: group", GROUP, TRIM, SHORT, SHORT + 1, 22),
+    CUTS("declined 23: groups", GROUPS, PANEL_NO_CODE, SHORT, SHORT, 23),
+    CUTS("declined 25: group", GROUP, TRIM, SHORT, MIDDLE + 1, 25),
 };
 
 const unsigned case_count = sizeof cases / sizeof cases[0];
@@ -210,13 +228,26 @@ static void make_session(void)
     gave(panel_pack(session, 1 + LISTED, list, sizeof list, &list_length));
 }
 
-/* The module, buffer, answer, lengths, call and place that the calls are made on. */
+/* The codes: of every twelve from the second on, the first and the sixth are the trim key's. */
+static void make_codes(void)
+{
+    size_t i;
+    codes[0] = OTHER;
+    for (i = 0; i + 1 < CODES; i++) {
+        unsigned pair = (unsigned)(i % 12 < 6 ? i + 1 : i) / 2, key = 0x40 + 16 * (pair % 4) + pair % 12;
+        codes[i + 1] = (uint8_t)(i % 12 == 0 ? TRIM : i % 12 == 5 ? TRIM + PANEL_RELEASED : (i % 12 < 6 ? i % 2 == 1 : i % 2 == 0) ? key : key + PANEL_RELEASED);
+    }
+}
+
+/* The module, buffer, answer, lengths, call, place and what is told of groups that the calls are made on. */
 static struct panel panel;
 static uint8_t buffer[ROOM];
 static bool yes;
 static uint64_t length, done;
 static struct panel_call call;
 static struct panel_place place;
+static struct panel_standing standing;
+static struct panel_handed handed;
 
 /* One call of a turn. */
 static uint8_t make(const struct face *face, const struct measured *measured, unsigned at)
@@ -242,6 +273,13 @@ static uint8_t make(const struct face *face, const struct measured *measured, un
         return face->unpack(list, list_length - measured->count, &place, &call, &yes);
     case PLAY:
         return face->play(&panel, list, list_length - measured->count);
+    case GROUP:
+        return (uint8_t)face->group(&standing, measured->first, codes, measured->count, measured->room)->number;
+    case STRETCH:
+        face->stretch(measured->first, codes, measured->count, measured->room, &length);
+        return (uint8_t)length;
+    case GROUPS:
+        return (uint8_t)face->groups(&handed, measured->first, codes, measured->count, ends, measured->room)->number;
     default:
         return face->reset(&panel);
     }
@@ -265,6 +303,7 @@ bool prepare(const struct face *const *faces, unsigned face_count)
     make_typing();
     make_modules();
     make_session();
+    make_codes();
     if (declined != PANEL_DONE) {
         printf("a module of the cases can't be made: a call gives %u\n", declined);
         return false;

@@ -4,7 +4,7 @@
 
 #include "face.h"
 
-enum call { RESET, LOOK, BLOCK, WRITE, READ, HELD, INTERRUPT, PACK, PACK_NEXT, UNPACK, PLAY };
+enum call { RESET, LOOK, BLOCK, WRITE, READ, HELD, INTERRUPT, PACK, PACK_NEXT, UNPACK, PLAY, GROUP, STRETCH, GROUPS };
 
 struct measured {
     const char *name;
@@ -12,11 +12,11 @@ struct measured {
     const struct panel *start;   /* the module before the first call */
     const uint16_t (*looks)[8];  /* LOOK: a set of samples for each call; BLOCK: those of all calls, one after another */
     unsigned calls;              /* how many calls one turn makes */
-    uint8_t first;               /* WRITE, READ: the first address; HELD: the row */
+    uint8_t first;               /* WRITE, READ: the first address; HELD: the row; GROUP, STRETCH, GROUPS: the trim key's code */
     uint8_t bytes[33];           /* WRITE: the bytes; HELD: the column */
-    size_t count;                /* LOOK, BLOCK, WRITE, READ: how many samples or bytes; PACK: calls; UNPACK, PLAY: bytes less than the list has */
-    size_t room;                 /* PACK, PACK_NEXT: bytes of the buffer */
-    uint8_t number;              /* the number that each call gives */
+    size_t count;                /* LOOK, BLOCK, WRITE, READ: how many samples or bytes; PACK: calls; UNPACK, PLAY: bytes less than the list has; GROUP, STRETCH, GROUPS: codes */
+    size_t room;                 /* PACK, PACK_NEXT: bytes of the buffer; GROUP, STRETCH: the place; GROUPS: how many ends there is room for */
+    uint8_t number;              /* the number that each call gives; STRETCH: how long it is */
 };
 
 /* The cases, and how many there are. */

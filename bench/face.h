@@ -1,4 +1,4 @@
-/* The eleven calls over pointers, as a table, so that the archive and the plain C can be run in turn. */
+/* The fourteen calls over pointers, as a table, so that the archive and the plain C can be run in turn. */
 #ifndef FACE_H
 #define FACE_H
 
@@ -17,9 +17,12 @@ struct face {
     uint8_t (*pack_next)(const struct panel_call *call, uint8_t *out, uint64_t room, struct panel_place *place);
     uint8_t (*unpack)(const uint8_t *bytes, uint64_t count, struct panel_place *place, struct panel_call *call, bool *end);
     uint8_t (*play)(struct panel *panel, const uint8_t *bytes, uint64_t count);
+    struct panel_standing *(*group)(struct panel_standing *made, uint8_t trim, const uint8_t *codes, uint64_t count, uint64_t place);
+    const uint8_t *(*stretch)(uint8_t trim, const uint8_t *codes, uint64_t count, uint64_t place, uint64_t *length);
+    struct panel_handed *(*groups)(struct panel_handed *made, uint8_t trim, const uint8_t *codes, uint64_t count, uint64_t *ends, uint64_t room);
 };
 
-/* The archive, reset and what carries a session behind the inline functions of panel.h (faces.c). */
+/* The archives; reset, what carries a session and the stretch behind the inline functions of panel.h (faces.c). */
 extern const struct face proved;
 
 /* plain.c, compiled at two levels. */

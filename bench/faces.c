@@ -1,4 +1,4 @@
-/* The archive as a table, and the calls that do nothing. */
+/* The archives as a table, and the calls that do nothing. */
 #include "face.h"
 
 /* The header's inline functions, as functions that have an address. */
@@ -27,9 +27,14 @@ static uint8_t proved_play(struct panel *panel, const uint8_t *bytes, uint64_t c
     return panel_play(panel, bytes, count);
 }
 
-/* The others are the archive's own. */
+static const uint8_t *proved_stretch(uint8_t trim, const uint8_t *codes, uint64_t count, uint64_t place, uint64_t *length)
+{
+    return panel_stretch(trim, codes, count, place, length);
+}
+
+/* The others are the archives' own. */
 const struct face proved = {"proved", proved_reset, panel_look, panel_looks, panel_write, panel_read, panel_held, panel_interrupt,
-                            proved_pack, proved_pack_next, proved_unpack, proved_play};
+                            proved_pack, proved_pack_next, proved_unpack, proved_play, panel_group_value, proved_stretch, panel_groups_value};
 
 /* Calls that do nothing: the cost of a turn without them. */
 static uint8_t idle_reset(struct panel *panel)
@@ -98,5 +103,23 @@ static uint8_t idle_play(struct panel *panel, const uint8_t *bytes, uint64_t cou
     return PANEL_DONE;
 }
 
+static struct panel_standing *idle_group(struct panel_standing *made, uint8_t trim, const uint8_t *codes, uint64_t count, uint64_t place)
+{
+    (void)trim, (void)codes, (void)count, (void)place;
+    return made;
+}
+
+static const uint8_t *idle_stretch(uint8_t trim, const uint8_t *codes, uint64_t count, uint64_t place, uint64_t *length)
+{
+    (void)trim, (void)count, (void)place, (void)length;
+    return codes;
+}
+
+static struct panel_handed *idle_groups(struct panel_handed *made, uint8_t trim, const uint8_t *codes, uint64_t count, uint64_t *ends, uint64_t room)
+{
+    (void)trim, (void)codes, (void)count, (void)ends, (void)room;
+    return made;
+}
+
 const struct face idle = {"idle", idle_reset, idle_look, idle_looks, idle_write, idle_read, idle_held, idle_interrupt,
-                          idle_pack, idle_pack_next, idle_unpack, idle_play};
+                          idle_pack, idle_pack_next, idle_unpack, idle_play, idle_group, idle_stretch, idle_groups};

@@ -671,9 +671,109 @@ static uint8_t plain_play(struct panel *panel, const uint8_t *bytes, uint64_t co
     return PANEL_DONE;
 }
 
+/* Is a code a press or a release of a key? */
+static bool is_code(uint8_t code)
+{
+    return (code & 0x0F) < PANEL_COLS;
+}
+
+/* The number of a list of codes by itself: all codes, then the keys that are down along it. */
+static uint8_t judge_codes(uint8_t trim, const uint8_t *codes, uint64_t count)
+{
+    bool down[PANEL_RELEASED];
+    uint64_t i;
+    if (trim >= PANEL_RELEASED || !is_code(trim))
+        return PANEL_BAD_CODE;
+    for (i = 0; i < count; i++) {
+        if (!is_code(codes[i]))
+            return PANEL_BAD_CODE;
+    }
+    memset(down, 0, sizeof down);
+    for (i = 0; i < count; i++) {
+        bool press = codes[i] < PANEL_RELEASED, *key = &down[codes[i] % PANEL_RELEASED];
+        if (*key == press)
+            return PANEL_BAD_CHANGE;
+        *key = press;
+    }
+    return PANEL_DONE;
+}
+
+/* The place after the group that begins at a place; the place itself if it is open. */
+static uint64_t group_end(uint8_t trim, const uint8_t *codes, uint64_t count, uint64_t first)
+{
+    uint64_t i;
+    if (codes[first] != trim)
+        return first + 1;
+    for (i = first + 1; i < count; i++) {
+        if (codes[i] == trim + PANEL_RELEASED)
+            return i + 1;
+    }
+    return first;
+}
+
+/* What stands at a place: the list judged, then gone through up to it. */
+static struct panel_standing *plain_group(struct panel_standing *made, uint8_t trim, const uint8_t *codes, uint64_t count, uint64_t place)
+{
+    uint64_t at = 0, end = 0;
+    made->kind = PANEL_DECLINED;
+    made->first = made->end = 0;
+    made->number = place > count ? PANEL_BEYOND_END : judge_codes(trim, codes, count);
+    if (made->number != PANEL_DONE)
+        return made;
+    if (place == count) {
+        made->kind = PANEL_END;
+        return made;
+    }
+    while (at <= place) {
+        end = group_end(trim, codes, count, at);
+        if (end == at || at == place)
+            break;
+        at = end;
+    }
+    if (at != place) {
+        made->number = PANEL_INSIDE_GROUP;
+        return made;
+    }
+    made->kind = end == at ? PANEL_OPEN : PANEL_GROUP;
+    made->first = at;
+    made->end = end;
+    return made;
+}
+
+/* The finished group at a place, as a part of the list. */
+static const uint8_t *plain_stretch(uint8_t trim, const uint8_t *codes, uint64_t count, uint64_t place, uint64_t *length)
+{
+    struct panel_standing standing;
+    plain_group(&standing, trim, codes, count, place);
+    *length = 0;
+    if (standing.kind != PANEL_GROUP)
+        return codes;
+    *length = standing.end - standing.first;
+    return codes + standing.first;
+}
+
+/* All groups: the list judged once, then gone through. */
+static struct panel_handed *plain_groups(struct panel_handed *made, uint8_t trim, const uint8_t *codes, uint64_t count, uint64_t *ends, uint64_t room)
+{
+    made->groups = made->tail = 0;
+    made->number = judge_codes(trim, codes, count);
+    if (made->number != PANEL_DONE)
+        return made;
+    while (made->tail < count) {
+        uint64_t end = group_end(trim, codes, count, made->tail);
+        if (end == made->tail)
+            break;
+        if (made->groups < room)
+            ends[made->groups] = end;
+        made->groups++;
+        made->tail = end;
+    }
+    return made;
+}
+
 /* The build gives PLAIN: the table's name at this level. */
 #define WORD(name) #name
 #define WORDS(name) WORD(name)
 
 const struct face PLAIN = {WORDS(PLAIN), plain_reset, plain_look, plain_looks, plain_write, plain_read, plain_held, plain_interrupt,
-                           plain_pack, plain_pack_next, plain_unpack, plain_play};
+                           plain_pack, plain_pack_next, plain_unpack, plain_play, plain_group, plain_stretch, plain_groups};

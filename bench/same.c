@@ -1,8 +1,9 @@
 /*
  * Do the archive and the plain C give the same answers? Random calls on random modules, sound and unsound:
  * the number, every byte of the module, every byte of the buffer, the answer and a block's looks done are compared after each.
- * What carries a session stands in lists.c.
+ * What carries a session stands in lists.c, undo groups in groups.c.
  */
+#include "groups.h"
 #include "lists.h"
 #include "modules.h"
 
@@ -303,9 +304,14 @@ int main(void)
 {
     if (!compare(&proved, &plain_O2) || !compare(&proved, &plain_O3) || !compare_lists(&proved, &plain_O2) || !compare_lists(&proved, &plain_O3))
         return 1;
+    if (!compare_groups(&proved, &plain_O2) || !compare_groups(&proved, &plain_O3))
+        return 1;
     printf("the same answers: %u random calls of the archive and of the plain C at -O2, and as many at -O3\n", CALLS);
     if (!all_given() || !enough_hid())
         return 1;
     printf("the same answers: %u random lists, packed, unpacked and played, at each level\n", LISTS);
-    return all_lists_given() ? 0 : 1;
+    if (!all_lists_given())
+        return 1;
+    printf("the same answers: %u random lists of codes, cut into undo groups, at each level\n", CUT_LISTS);
+    return all_groups_given() ? 0 : 1;
 }

@@ -14,18 +14,24 @@
  *     number = panel_pack_next(&call, list, sizeof list, &place);
  *     number = panel_play(&other, list, panel_packed(place));
  *
+ * The codes that were fetched can be cut into undo groups, by the trim key: one is asked for by its place, or all are handed out at once:
+ *
+ *     standing = panel_group(trim, codes, count, place);
+ *     handed = panel_groups(trim, codes, count, ends, room);
+ *
  * Each call gives a number. PANEL_DONE: the call was done. Any other: it was declined, neither the module nor a byte of the buffer is altered,
  * and a question's answer is no. There is one exception: a block of looks that stops at a look keeps the looks before it.
  * A number is given exactly when its condition holds and none before it in the call's list does.
  *
  * Link with libpanel.a, which `rt staticlib panel` writes for x86-64; panel_play is in libplayer.a, by `rt staticlib player`, so that a panel that
- * only records does without it. They need memcpy and the like, and nothing else.
+ * only records does without it; panel_group, panel_stretch and panel_groups are in libgroups.a, by `rt staticlib groups`, for the computer that has the
+ * codes. They need memcpy and the like, and nothing else.
  *
- * What the eleven calls do is proved, for every module, every argument and every length. Outside the proof, and so for the caller to see to:
+ * What the fourteen calls do is proved, for every module, every argument and every length. Outside the proof, and so for the caller to see to:
  *   - every bool of a `struct panel`, and the bool that takes an answer, is the byte 0 or 1 before the call. Soundness doesn't see another
  *     byte there, so ask panel_bools_ok of a module that comes from storage; panel_reset and panel_play ask nothing of the memory that they fill;
  *   - a pointer is valid for its length, and not null, also when the length is 0 and when the call is declined;
- *   - module, samples, bytes, buffer, answer and `done` don't overlap, nor do calls, packed list, length, place and end;
+ *   - module, samples, bytes, buffer, answer and `done` don't overlap, nor do calls, packed list, length, place and end, nor codes, ends and what a call fills;
  *   - one call at a time on one module, interrupt routines included, and the questions too: a call in the midst of another sees half of it.
  *     Calls on two modules never meet;
  *   - the C compiler, and the inline functions of this file.
@@ -41,8 +47,8 @@
  * This header's version, 10000 x first + 100 x second + third. The first rises when a caller must be changed or compiled again: another layout,
  * another meaning of a call. The second rises when something is added, the third when only words change. Header and archive are of one version.
  */
-#define PANEL_VERSION 30000
-#define PANEL_VERSION_TEXT "3.0.0"
+#define PANEL_VERSION 30100
+#define PANEL_VERSION_TEXT "3.1.0"
 
 /* On a call that gives a number: the compiler warns if nobody looks at it. */
 #if defined(__GNUC__)
@@ -58,16 +64,20 @@ extern "C" {
 /* The numbers that a call can give. 9 was given by no call, is retired and gets no new use. */
 enum panel_number {
     PANEL_DONE = 0,
-    PANEL_NOT_EIGHT = 1,   /* look: the list isn't eight samples; block: its length isn't a multiple of eight */
-    PANEL_HIGH_BITS = 2,   /* look, also one of a block: some sample has bit 13, 14 or 15 set */
-    PANEL_NO_BYTES = 3,    /* access: no bytes */
-    PANEL_TOO_MANY = 4,    /* access: more than 32 bytes */
-    PANEL_NOT_ALLOWED = 5, /* access: some address of the run is unknown, or can't be read or written as asked */
-    PANEL_BAD_SIZE = 6,    /* write: a byte for KBDSIZE isn't acceptable */
-    PANEL_NO_KEY = 7,      /* held question: row above 7 or column above 12 */
-    PANEL_UNSOUND = 8,     /* look, block, access, question: the module isn't sound; never after calls from reset alone */
-    PANEL_CUT_SHORT = 20,  /* packed list: cut short or padded wrongly */
-    PANEL_NO_ROOM = 21     /* packing: the buffer is too short */
+    PANEL_NOT_EIGHT = 1,    /* look: the list isn't eight samples; block: its length isn't a multiple of eight */
+    PANEL_HIGH_BITS = 2,    /* look, also one of a block: some sample has bit 13, 14 or 15 set */
+    PANEL_NO_BYTES = 3,     /* access: no bytes */
+    PANEL_TOO_MANY = 4,     /* access: more than 32 bytes */
+    PANEL_NOT_ALLOWED = 5,  /* access: some address of the run is unknown, or can't be read or written as asked */
+    PANEL_BAD_SIZE = 6,     /* write: a byte for KBDSIZE isn't acceptable */
+    PANEL_NO_KEY = 7,       /* held question: row above 7 or column above 12 */
+    PANEL_UNSOUND = 8,      /* look, block, access, question: the module isn't sound; never after calls from reset alone */
+    PANEL_CUT_SHORT = 20,   /* packed list: cut short or padded wrongly */
+    PANEL_NO_ROOM = 21,     /* packing: the buffer is too short */
+    PANEL_BEYOND_END = 22,  /* undo groups: the place is beyond the end of the list */
+    PANEL_BAD_CODE = 23,    /* undo groups: the trim key's code is no press of a key, or some code of the list no press or release of one */
+    PANEL_BAD_CHANGE = 24,  /* undo groups: a press of a key that is down, or a release of one that is up; no key is down at the list's start */
+    PANEL_INSIDE_GROUP = 25 /* undo groups: the place is before the end, and inside a group or past the start of an open one */
 };
 
 /* The registers, by the data sheet's names. Every other address is unknown. */
@@ -161,6 +171,29 @@ struct panel_place {
     uint8_t bit;
 };
 
+/* What stands at a place of a list of codes. */
+enum panel_stands {
+    PANEL_DECLINED = 0, /* nothing is told; the number says why */
+    PANEL_GROUP = 1,    /* a finished group begins here */
+    PANEL_OPEN = 2,     /* a group begins here that is open: the trim key is still down at the list's end */
+    PANEL_END = 3       /* the end of the list: nothing more */
+};
+
+/* The answer to panel_group. */
+struct panel_standing {
+    uint64_t number;
+    uint64_t kind;  /* a panel_stands */
+    uint64_t first; /* PANEL_GROUP and PANEL_OPEN: the place; else 0 */
+    uint64_t end;   /* PANEL_GROUP: the place after its last code, where the next one begins; PANEL_OPEN: the place, again; else 0 */
+};
+
+/* What panel_groups has handed out. */
+struct panel_handed {
+    uint64_t number;
+    uint64_t groups; /* how many finished groups the list has, whatever the room; declined: 0 */
+    uint64_t tail;   /* the first place of the open group behind them, or the list's length where none is open; declined: 0 */
+};
+
 /*
  * One look: a sample for each row, bit c set when column c is closed, bit 12 for the special function key.
  * A set bit 12 in a row of the size hides the rest of the row: the keys of columns 0 to 11 have no sample in this look, so they neither change nor forget.
@@ -230,6 +263,18 @@ struct panel_written *panel_add_numbers(struct panel_written *made, const uint16
 struct panel_record *panel_unpack_value(struct panel_record *made, const uint8_t *bytes, uint64_t count, uint64_t byte, uint8_t bit);
 struct panel_done *panel_play_value(struct panel_done *made, const uint8_t *bytes, uint64_t count);
 
+/* Which part of a list is the finished group at a place, and the number that panel_group gives. */
+struct panel_part {
+    uint64_t number;
+    uint64_t first;
+    uint64_t length;
+};
+
+/* Each fills its struct and hands the pointer back; panel_group, panel_stretch and panel_groups below are the calls to use. */
+struct panel_standing *panel_group_value(struct panel_standing *made, uint8_t trim, const uint8_t *codes, uint64_t count, uint64_t place);
+struct panel_part *panel_stretch_part(struct panel_part *made, uint8_t trim, const uint8_t *codes, uint64_t count, uint64_t place);
+struct panel_handed *panel_groups_value(struct panel_handed *made, uint8_t trim, const uint8_t *codes, uint64_t count, uint64_t *ends, uint64_t room);
+
 /* Refused, by a name that tells what is wrong, if the compiler lays the structs out otherwise than the archive. */
 #define PANEL_SEEN(name, fact) typedef char name[(fact) ? 1 : -1]
 #define PANEL_AT(field, place) PANEL_SEEN(panel_##field##_is_at_##place, offsetof(struct panel, field) == (place))
@@ -266,6 +311,19 @@ PANEL_IN(record, byte, 72);
 PANEL_IN(record, bit, 80);
 PANEL_IN(record, number, 81);
 PANEL_IN(record, end, 82);
+PANEL_SEEN(panel_standing_is_32_bytes, sizeof(struct panel_standing) == 32);
+PANEL_IN(standing, number, 0);
+PANEL_IN(standing, kind, 8);
+PANEL_IN(standing, first, 16);
+PANEL_IN(standing, end, 24);
+PANEL_SEEN(panel_part_is_24_bytes, sizeof(struct panel_part) == 24);
+PANEL_IN(part, number, 0);
+PANEL_IN(part, first, 8);
+PANEL_IN(part, length, 16);
+PANEL_SEEN(panel_handed_is_24_bytes, sizeof(struct panel_handed) == 24);
+PANEL_IN(handed, number, 0);
+PANEL_IN(handed, groups, 8);
+PANEL_IN(handed, tail, 16);
 #undef PANEL_IN
 #undef PANEL_AT
 #undef PANEL_SEEN
@@ -353,6 +411,47 @@ PANEL_NUMBER static inline uint8_t panel_play(struct panel *panel, const uint8_t
     if (made.number == PANEL_DONE)
         *panel = made.after;
     return made.number;
+}
+
+/*
+ * Undo groups. The codes are a list as it was fetched, oldest first; no key is down at its start. `trim` is the trim key's press code.
+ * A group opens at the trim key's press and ends with its release, which belongs to it; codes of other keys between them do too. A code outside is a group of
+ * its own. A trim key that is still down at the end leaves the last group open. So the groups in order, with an open one at the end, are the whole list.
+ *
+ * What stands at a place, 0 to `count`: a finished group, an open one, or the end of the list. From 0 on, `end` leads from each group to the next.
+ * The whole list is judged at every question, behind the place too.
+ * Numbers: PANEL_BEYOND_END, PANEL_BAD_CODE, PANEL_BAD_CHANGE, PANEL_INSIDE_GROUP, else PANEL_DONE.
+ */
+PANEL_NUMBER static inline struct panel_standing panel_group(uint8_t trim, const uint8_t *codes, uint64_t count, uint64_t place)
+{
+    struct panel_standing made;
+    panel_group_value(&made, trim, codes, count, place);
+    return made;
+}
+
+/*
+ * The finished group at a place, as that stretch of the list itself: where its codes lie in `codes`, and `length`, how many they are.
+ * It is empty, at the list's own beginning, where no finished group begins: at an open one, at the end, and where panel_group declines the place or the list.
+ */
+static inline const uint8_t *panel_stretch(uint8_t trim, const uint8_t *codes, uint64_t count, uint64_t place, uint64_t *length)
+{
+    struct panel_part made;
+    panel_stretch_part(&made, trim, codes, count, place);
+    *length = made.length;
+    return codes + made.first;
+}
+
+/*
+ * All groups of a list, judged once: the place after each, in order, goes to `ends`, as far as there is room; the rest of it stays.
+ * The first group begins at 0, each other at the end of the one before it. A list has at most as many groups as codes, so a room of `count` always suffices.
+ * Declined: no place of `ends` is altered.
+ * Numbers: PANEL_BAD_CODE, PANEL_BAD_CHANGE, else PANEL_DONE; it is asked for no place.
+ */
+PANEL_NUMBER static inline struct panel_handed panel_groups(uint8_t trim, const uint8_t *codes, uint64_t count, uint64_t *ends, uint64_t room)
+{
+    struct panel_handed made;
+    panel_groups_value(&made, trim, codes, count, ends, room);
+    return made;
 }
 
 /* Are the 112 bool bytes of a restored module 0 or 1? They are read as bytes; what else makes it unsound, a call tells. */

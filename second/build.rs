@@ -2,7 +2,8 @@
 //! in it, and planted.rs, which lists them all. Only tests/planted.rs takes them in.
 //!
 //! A console can be made over any module. What else it is made of stands in its text, so an edit
-//! there brings a copy of the console along that uses the edited copy.
+//! there brings a copy of the console along that uses the edited copy, and copies of what stands
+//! between the two.
 
 use std::env::var;
 use std::fs::{read_dir, read_to_string, write};
@@ -12,8 +13,16 @@ const MODULE: &str = "src/module.rs";
 const CONSOLE: &str = "src/console.rs";
 const EDITS: &str = "tests/planted";
 
-/// The files that can be edited.
-const FILES: [&str; 4] = [MODULE, CONSOLE, "src/carry.rs", "src/typed.rs"];
+/// The files that can be edited, each before those that use it.
+const FILES: [&str; 7] = [
+    MODULE,
+    "src/carry.rs",
+    "src/typed.rs",
+    "src/fetched.rs",
+    "src/undo.rs",
+    "src/grouped.rs",
+    CONSOLE,
+];
 
 /// Writes the copies and their list.
 fn main() {
@@ -29,7 +38,7 @@ fn main() {
             MODULE => format!("Console::over(Box::new({ident}::Module::new()))"),
             CONSOLE => format!("{ident}::Console::new()"),
             _ => {
-                modules += &module(&format!("{ident}_console"), &console_over(file, &ident));
+                modules += &users(file, &ident);
                 format!("{ident}_console::Console::new()")
             }
         };
@@ -46,10 +55,28 @@ fn module(ident: &str, text: &str) -> String {
     format!("#[allow(warnings)]\n#[path = {path:?}]\nmod {ident};\n")
 }
 
-/// The console's text with an edited copy in the place of a file that it uses.
-fn console_over(file: &str, ident: &str) -> String {
-    let used = file.replace("src/", "use crate::").replace(".rs", "::");
-    read_to_string(CONSOLE).unwrap().replace(&used, &format!("use crate::{ident}::"))
+/// Writes copies of all that use an edited file, up to the console, each with the copies before it
+/// in the place of what it uses. Gives the lines that take them in.
+fn users(file: &str, ident: &str) -> String {
+    let mut copies = vec![(uses(file), ident.to_string())];
+    let mut modules = String::new();
+    for user in FILES.iter().skip_while(|user| **user != file).skip(1) {
+        let text = read_to_string(user).unwrap();
+        let over = copies.iter().fold(text.clone(), |text, (used, copy)| {
+            text.replace(used, &format!("use crate::{copy}::"))
+        });
+        if over != text {
+            let copy = format!("{ident}_{}", user.replace("src/", "").replace(".rs", ""));
+            modules += &module(&copy, &over);
+            copies.push((uses(user), copy));
+        }
+    }
+    modules
+}
+
+/// How a line begins that uses a file.
+fn uses(file: &str) -> String {
+    file.replace("src/", "use crate::").replace(".rs", "::")
 }
 
 /// The names of the planted errors, in order.

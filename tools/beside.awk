@@ -1,6 +1,6 @@
 # A script beside its answers, which come in; ENVIRON has the script's name (SCRIPT) and the host's page (HOST). words.awk comes before it.
 # A line that asks for nothing, blank or a comment, stands as it is. An answer that begins with a number or a question mark is a line;
-# another has many, below its command, and ends with a line of one full stop. Exit status 1 if an answer is a question mark or missing.
+# another, and every drawing of undo groups, has many, below its command, and ends with a line of one full stop. Exit status 1 if an answer is a question mark or missing.
 
 BEGIN {
     script = ENVIRON["SCRIPT"]
@@ -107,9 +107,11 @@ within { print "    " $0; within = $0 != "."; next }
 
 !next_asked(script, 1) { show("", $0, ""); missing = missing "an answer without a line\n"; next }
 
-/^[0-9?]/ { show(asked, $0, words_of(asked, $0)); if (/^[?]/) bad = 1; next }
+{ within = has_more($0) }
 
-{ print shown(asked); print "    " $0; within = has_more($0) }
+/^[0-9?]/ && !within { show(asked, $0, words_of(asked, $0)); if (/^[?]/) bad = 1; next }
+
+{ print shown(asked); print "    " $0 }
 
 END {
     while (next_asked(script, 1)) { show(asked, "(no answer)", ""); bad = 1 }

@@ -31,12 +31,14 @@ typed() {
 }
 
 # Copies answers, with a prompt after each: one that begins with a number or a question mark is a line, another ends with a line of one full stop.
+# So does one that begins with 23 or 24 and words behind it, which is a list that can't be drawn as undo groups.
 answers() {
     within=''
     printf '%s' "$prompt"
     while IFS= read -r line; do
         printf '%s\n' "$line"
         case $within$line in
+        2[34]' '*) within=within ;;
         [0-9?]* | . | within.) within='' ;;
         *) within=within ;;
         esac

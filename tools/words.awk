@@ -25,19 +25,26 @@ function next_asked(script, seen) {
     return 0
 }
 
-# does an answer that begins with this line have more of them, up to one of one full stop?
-function has_more(line) { return line !~ /^[0-9?]/ && line != "." }
-
 # the words of a line
 function words_in(line, word) {
     sub(/\r$/, "", line)
     return split(line, word, " ")
 }
 
-# is a line a block of looks?
-function is_block(line,    word) {
+# the command of a line
+function command_of(line,    word) {
     words_in(line, word)
-    return word[1] == "looks"
+    return word[1]
+}
+
+# is a line a block of looks?
+function is_block(line) { return command_of(line) == "looks" }
+
+# does the answer to the line in `asked` that begins with this line have more of them, up to one of one full stop? Where undo groups
+# are drawn it has, even if it begins with a number
+function has_more(line) {
+    if (line ~ /^[?]/ || line == ".") return 0
+    return line !~ /^[0-9]/ || command_of(asked) == "undo"
 }
 
 # the value of a word in base 16

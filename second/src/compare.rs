@@ -1,5 +1,6 @@
-//! The same script to another console and to the second module, and where they first differ. How
-//! a console ends counts as the last of its answers.
+//! The same script to another console and to the second module, and where they first differ. An
+//! answer of many lines is compared line by line. How a console ends counts as the last of its
+//! answers.
 //!
 //! A difference is shown twice: where it came up, and at the end of a script cut down to what
 //! leads to it.
@@ -94,10 +95,15 @@ pub fn cut_down(script: &[Line], differs: &mut Differs) -> Vec<Line> {
     loop {
         chunk = (chunk / 2).max(1);
         let dropped = drop_chunks(&mut kept, chunk, differs);
-        if chunk == 1 && !dropped && !shorten(&mut kept, differs) && !quieten(&mut kept, differs) {
+        if chunk == 1 && !dropped && !make_all_plainer(&mut kept, differs) {
             return kept;
         }
     }
+}
+
+/// Makes lines plainer in the first way in which some can be.
+fn make_all_plainer(kept: &mut Vec<Line>, differs: &mut Differs) -> bool {
+    shorten(kept, differs) || thin(kept, differs) || quieten(kept, differs)
 }
 
 /// Takes the shorter or plainer script, up to its difference, if it has one.
@@ -199,6 +205,32 @@ fn without_calls(line: &[u8], place: usize, count: usize) -> Option<Line> {
         words => format!("{}{}", shown(words.first()?), spaced(&pack(&calls, usize::MAX).ok()?)),
     };
     Some(line.into_bytes())
+}
+
+/// Leaves codes out of the lists that are cut into undo groups.
+fn thin(kept: &mut Vec<Line>, differs: &mut Differs) -> bool {
+    let count = |line: &[u8]| before_codes(line).map_or(0, |before| words(line).len() - before);
+    make_plainer(kept, count, &without_codes, differs)
+}
+
+/// How many words stand before a line's list of codes, if it has one.
+fn before_codes(line: &[u8]) -> Option<usize> {
+    match words(line).as_slice() {
+        [b"group" | b"fetch", _, _, _, ..] => Some(4),
+        [b"groups", _, _, ..] | [b"undo", _, b":", ..] => Some(3),
+        _ => None,
+    }
+}
+
+/// A line with fewer codes in its list, if it has any from that place on.
+fn without_codes(line: &[u8], place: usize, count: usize) -> Option<Line> {
+    let first = before_codes(line)? + place;
+    let mut words = words(line);
+    if first >= words.len() {
+        return None;
+    }
+    words.drain(first..words.len().min(first + count));
+    Some(words.join(&b' '))
 }
 
 /// Opens the contacts that are not needed, whole rows first.

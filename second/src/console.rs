@@ -2,10 +2,13 @@
 //!
 //! Input is bytes of any kind, in pieces of any length. A line is answered as soon as it is
 //! complete; one line is all that is kept. Beside the module are the contacts, as fingers leave
-//! them, and the calls made so far, if the session is recorded.
+//! them, the codes fetched since the last restart, and the calls made so far, if the session is
+//! recorded.
 
 use crate::calls::{Call, Calls};
 use crate::carry::{judge, pack, unpack, NO_LIST};
+use crate::fetched::Fetched;
+use crate::grouped::{answer_fetch, answer_group, answer_groups, drawing, undo};
 use crate::module::Module;
 use crate::typed::{call, calls, list, spaced, text};
 use crate::words::{byte, none, number, one, place, samples, shown, two, words, Wrong};
@@ -24,6 +27,7 @@ pub struct Console {
     module: Box<dyn Calls>,
     /// A sample for each row, with a bit set for each closed contact.
     contacts: [u16; 8],
+    fetched: Fetched,
     /// The calls made that fit in a list, if the session is recorded.
     record: Option<Vec<Call>>,
     line: Vec<u8>,
@@ -49,8 +53,15 @@ impl Console {
 
     /// A console that begins with this module and with all contacts open.
     pub fn over(module: Box<dyn Calls>) -> Console {
-        let (contacts, line) = ([0; 8], Vec::new());
-        Console { module, contacts, record: None, line, ended: false, complained: false }
+        Console {
+            module,
+            contacts: [0; 8],
+            fetched: Fetched::default(),
+            record: None,
+            line: Vec::new(),
+            ended: false,
+            complained: false,
+        }
     }
 
     /// Records the session from here on.
@@ -104,14 +115,16 @@ impl Console {
         }
     }
 
-    /// The answers to a script, each with the place of its line, and how the console ends.
+    /// The answers to a script, line by line, each with the place of the line that is answered, and
+    /// how the console ends.
     pub fn answers(mut self, script: &[Vec<u8>]) -> impl Iterator<Item = (usize, String)> + '_ {
-        (0..=script.len()).filter_map(move |place| {
+        (0..=script.len()).flat_map(move |place| {
             let answer = match script.get(place) {
                 Some(line) => self.answer(line),
                 None => Some(end(self.status())),
             };
-            Some((place, answer?))
+            let lines = answer.iter().flat_map(|answer| answer.split('\n'));
+            lines.map(|line| (place, line.to_string())).collect::<Vec<_>>()
         })
     }
 
@@ -158,6 +171,10 @@ impl Console {
             b"pack" => answer_pack(words),
             b"unpack" => answer_unpack(words),
             b"play" => Ok(self.play(&list(words)?).to_string()),
+            b"group" => answer_group(words),
+            b"groups" => answer_groups(words),
+            b"fetch" => answer_fetch(words),
+            b"undo" => self.undo(words),
             // `show` and `help` have no counterpart here.
             b"help" if words == [b"numbers"] => Ok(".".to_string()),
             b"show" | b"help" => none(words).map(|_| ".".to_string()),
@@ -181,6 +198,7 @@ impl Console {
                 self.set(samples);
             }
         }
+        self.fetched.heed(&call, number, &bytes);
         self.keep(call);
         (number, bytes)
     }
@@ -246,6 +264,14 @@ impl Console {
         let (row, column) = two(words)?;
         let asked = (byte(row, 10)?, byte(column, 10)?);
         Ok(question(self.module.held(asked.0, asked.1)))
+    }
+
+    /// `undo TRIM`, `undo TRIM : C0 C1 ..`
+    fn undo(&self, words: &[&[u8]]) -> Answer {
+        Ok(match undo(words)? {
+            (trim, Some(codes)) => drawing(trim, &codes, false),
+            (trim, None) => drawing(trim, &self.fetched.codes, self.fetched.more),
+        })
     }
 
     /// `play HEX..`, and a list from elsewhere: a reset, and then its calls, whatever they answer.

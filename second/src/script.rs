@@ -3,13 +3,15 @@
 //! A script is a row of stretches of 50 to 400 lines. Each has a regime: typing, fingers on the
 //! panel, a storm of changes, picture reading, patience under a long bounce, settings that churn,
 //! registers at random, calls that are declined, lists that are carried, blocks of looks, direct keys
-//! that hide their rows. The contacts go on from one stretch to the next.
+//! that hide their rows, lists of codes that are cut into undo groups, editing with a trim key. The
+//! contacts go on from one stretch to the next.
 
 mod blocks;
 mod carry;
 mod direct;
 mod fingers;
 mod lists;
+mod undo;
 
 use crate::calls::Call;
 use crate::chance::Chance;
@@ -51,7 +53,7 @@ const BAD_SIZES: [u8; 10] = [0x1C, 0x2D, 0x92, 0x81, 0x21, 0x12, 0x00, 0xFF, 0x9
 type Regime = (fn(&mut Maker), fn(&mut Maker));
 
 /// The regimes; those that are there twice are taken twice as often.
-const REGIMES: [Regime; 18] = [
+const REGIMES: [Regime; 20] = [
     (Maker::begin_typing, Maker::type_keys),
     (Maker::begin_typing, Maker::type_keys),
     (Maker::begin_fingers, Maker::move_fingers),
@@ -70,6 +72,8 @@ const REGIMES: [Regime; 18] = [
     (Maker::begin_storm, Maker::take_blocks),
     (Maker::begin_direct, Maker::hide_rows),
     (Maker::begin_direct, Maker::hide_rows),
+    (Maker::begin_typing, Maker::cut_lists),
+    (Maker::begin_editing, Maker::edit),
 ];
 
 /// Ways to quit.
@@ -104,6 +108,8 @@ struct Maker {
     /// The contacts that are closed, and those that still bounce.
     closed: [u16; 8],
     bouncing: [u16; 8],
+    /// The trim key.
+    trim: (usize, u32),
 }
 
 // The stretches.
@@ -113,7 +119,7 @@ impl Maker {
         let mut chance = Chance::new(seed);
         let malformed = Malformed::new(&mut chance);
         let (closed, bouncing) = ([0; 8], [0; 8]);
-        Maker { chance, malformed, lines: Vec::new(), size: 0x22, closed, bouncing }
+        Maker { chance, malformed, lines: Vec::new(), size: 0x22, closed, bouncing, trim: (0, 0) }
     }
 
     /// One stretch of lines in one regime, with a few lines aside.
@@ -139,9 +145,14 @@ impl Maker {
 
     /// Now and then a line that has nothing to do with the regime.
     fn aside(&mut self) {
-        if self.chance.one_in(16) {
+        if self.chance.one_in(12) {
             let line = self.malformed.line(&mut self.chance);
             self.lines.push(line);
+        }
+        match self.chance.below(40) {
+            0 => self.undo(),
+            1 => self.ask_groups(),
+            _ => {}
         }
         if self.chance.one_in(250) {
             self.reset();

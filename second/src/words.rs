@@ -65,7 +65,7 @@ pub fn number(word: &[u8], radix: u32, most: u32) -> Result<u32, Wrong> {
 }
 
 /// The value of a word of digits, however many they are; none if it is above `most`.
-fn value(word: &[u8], radix: u32, most: u32) -> Result<Option<u32>, Wrong> {
+pub fn value(word: &[u8], radix: u32, most: u32) -> Result<Option<u32>, Wrong> {
     let mut value = 0;
     for byte in word {
         let digit = char::from(*byte).to_digit(radix).ok_or_else(|| not_a_number(word, radix))?;

@@ -27,6 +27,24 @@ fn the_words_after_a_question_mark_do_not_count() {
 }
 
 #[test]
+fn a_drawing_is_compared_line_by_line() {
+    let script = ["irq", "undo 10 : 21 10", "irq"];
+    let first = "trim key 1.0; codes: 2; + press, - release";
+    let (alone, open) = ("   0  alone  +2.1", "   1  open   +1.0");
+    assert_eq!(differs_at(&script, &["0 yes", first, alone, open, ".", "0 yes"], 0), None);
+    for wrong in [
+        &["0 yes", first, alone, "   1  open   +1.1", ".", "0 yes"][..],
+        &["0 yes", first, alone, ".", "0 yes"],
+        &["0 yes", first, alone, open, "0 yes"],
+        &["0 yes", ".", "0 yes"],
+        &["0 yes", first, alone, open],
+    ] {
+        assert_eq!(differs_at(&script, wrong, 0), Some(1), "{wrong:?}");
+    }
+    assert_eq!(differs_at(&script, &["0 yes", first, alone, open, "."], 0), Some(2));
+}
+
+#[test]
 fn answers_that_are_missing_or_too_many() {
     let script = ["# comment", "irq", "", "read 10 1"];
     assert_eq!(differs_at(&script, &["0 yes", "0 7F"], 0), None);
@@ -101,6 +119,23 @@ fn only_the_calls_that_lead_to_the_difference_are_kept() {
         ("unpack E1003080 01", "unpack 84 00 C2 00 04"),
     ] {
         assert_eq!(cut_down(&lines(&["irq", line, "irq"]), &mut differs), lines(&[short]));
+    }
+}
+
+#[test]
+fn only_the_codes_that_lead_to_the_difference_are_kept() {
+    // A stand-in that goes wrong at a list with a 10 and a 90 somewhere behind it.
+    let mut differs = |script: &[Line]| {
+        script.iter().map(|line| String::from_utf8_lossy(line).into_owned()).position(|text| {
+            let list = text.find(" 10").filter(|_| text.contains("3C"));
+            list.map_or(false, |list| text[list..].contains(" 90"))
+        })
+    };
+    let codes = " 21 A1 10 05 85 21 90 A1".to_string() + &" 32 B2".repeat(120);
+    for start in ["group 1 3C 7", "groups 1 3C", "fetch\t1  3C 7", "undo 3C :"] {
+        let cut = cut_down(&lines(&["irq", &format!("{start}{codes} \r"), "irq"]), &mut differs);
+        let words: Vec<&str> = start.split_whitespace().collect();
+        assert_eq!(cut, lines(&[&format!("{} 10 90", words.join(" "))]));
     }
 }
 

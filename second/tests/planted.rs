@@ -6,7 +6,7 @@
 //! can see are not among them.
 
 // The edited copies find here what they name.
-use second::{calls, carry, module, typed, words};
+use second::{calls, carry, fetched, grouped, module, typed, undo, words};
 
 use second::compare::{cut_down, difference};
 use second::console::Console;

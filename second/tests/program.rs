@@ -286,6 +286,29 @@ fn a_list_in_a_file_is_played_first() {
 }
 
 #[test]
+fn a_list_in_a_file_has_fetched_codes() {
+    let file = path("fetched");
+    // write 02 01 8C; look 0 0 0 1000 0 0 0 0; read 10 2: from bit 137 on, 10 00010000 00001.
+    let mut list = vec![0x40, 0x82, 0x03, 0x18, 0, 0, 0, 0, 0, 0x80];
+    list.extend([0, 0, 0, 0, 0, 0, 0, 0x42, 0x01]);
+    write(&file, list).unwrap();
+    let first = "trim key 3.SF; codes:";
+    let input = "undo 3C\nrelease 3 SF\nread 10 1\nundo 3C\nreset\nundo 3C\nundo 3C:\n";
+    let answers = format!(
+        "{first} 1; + press, - release\n   0  open   +3.SF\n.\n0\n0 BC\n\
+         {first} 2; + press, - release\n   0  group  +3.SF -3.SF\n.\n0\n\
+         {first} 0; + press, - release\n.\n\
+         ? not a hexadecimal number: 3C: (codes are hexadecimal)\n"
+    );
+    assert_eq!(speak_with(&["--play", &file], input), (answers, Some(1)));
+    // Nothing of this is recorded.
+    let to = path("not-recorded-groups");
+    let input = "undo 3C\nundo 3C : 3C\ngroup 1 3C 0 3C\ngroups 1 3C\nfetch 1 3C 0 3C\nreset\n";
+    assert_eq!(speak_with(&["--record", &to], input).1, Some(0));
+    assert_eq!(read(&to).unwrap(), [0xC0]);
+}
+
+#[test]
 fn a_list_is_played_and_recorded() {
     let (from, to) = (path("played-too"), path("recorded-too"));
     write(&from, [0x84, 0x3E]).unwrap();

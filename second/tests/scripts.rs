@@ -40,7 +40,7 @@ fn a_longer_script_begins_with_a_shorter_one() {
 #[test]
 fn every_number_is_given_but_eight_and_nine() {
     let answers = answers(&script(1, 20_000));
-    for number in ["0", "1", "2", "3", "4", "5", "6", "20", "21"] {
+    for number in ["0", "1", "2", "3", "4", "5", "6", "20", "21", "22", "23", "24", "25"] {
         assert!(answers.iter().any(|answer| answer == number), "{number}");
     }
     for number in ["7 no", "0 yes", "0 no", "0 reset", "0 look ", "0 write ", "0 read ", "? "] {
@@ -231,5 +231,139 @@ fn rows_are_hidden_in_a_quarter_of_the_looks() {
             let times = counts[&kind];
             assert!(times >= least, "{kind:?} {times} times with seed {seed}");
         }
+    }
+}
+
+/// The lines of a script about undo groups, with their answers.
+struct Grouped {
+    seed: u64,
+    answers: Vec<(String, String)>,
+}
+
+impl Grouped {
+    /// Those of the script of a seed.
+    fn new(seed: u64) -> Grouped {
+        let (mut console, mut answers) = (Console::new(), Vec::new());
+        for line in script(seed, 60_000) {
+            let answer = console.answer(&line);
+            let text = String::from_utf8_lossy(&line).into_owned();
+            let word = text.split_whitespace().next().unwrap_or_default();
+            if ["group", "groups", "fetch", "undo"].contains(&word) {
+                answers.extend(answer.map(|answer| (text, answer)));
+            }
+        }
+        Grouped { seed, answers }
+    }
+
+    /// The answers to those lines.
+    fn to(&self, those: impl Fn(&str) -> bool) -> Vec<&str> {
+        let lines = self.answers.iter().filter(|(line, _)| those(line));
+        lines.map(|(_, answer)| answer.as_str()).collect()
+    }
+
+    /// Sees to it that more than so many answers are such ones.
+    fn see(&self, answers: &[&str], least: usize, name: &str, such: impl Fn(&str) -> bool) {
+        let times = answers.iter().filter(|answer| such(answer)).count();
+        assert!(times > least, "{name} {times} times with seed {}", self.seed);
+    }
+
+    /// Every answer to a question for a place or for all groups.
+    fn see_answers(&self) {
+        for (word, answers) in [
+            ("group ", &["0 group", "0 open", "0 end", "22", "23", "24", "25", "?"][..]),
+            ("groups ", &["0 group", "0 open", "0 end", "23", "24", "?"]),
+            ("fetch ", &["0 ", "0", "22", "23", "24", "25", "?"]),
+        ] {
+            let seen = self.to(|line| line.starts_with(word));
+            for begin in answers {
+                self.see(&seen, 5, &format!("{word}{begin}"), |answer| answer.starts_with(begin));
+            }
+            let known = |answer: &&&str| answers.iter().any(|begin| answer.starts_with(begin));
+            assert_eq!(seen.iter().filter(known).count(), seen.len(), "{word}");
+        }
+        let all = self.to(|line| line.starts_with("groups "));
+        self.see(&all, 50, "an open tail", |answer| answer.contains(" open "));
+        self.see(&all, 50, "no open tail", |answer| answer.ends_with(" end"));
+    }
+
+    /// Every kind of drawing, of lists and of sessions.
+    fn see_drawings(&self) {
+        let lists = self.to(|line| line.starts_with("undo ") && line.contains(':'));
+        let sessions = self.to(|line| line.starts_with("undo ") && !line.contains(':'));
+        for seen in [&lists, &sessions] {
+            for kind in ["  group  +", "  alone  +", "  alone  -", "  open   +", "codes: 0;"] {
+                self.see(seen, 20, kind, |drawing| drawing.contains(kind));
+            }
+            for kind in ["23 the trim key", "24 place ", "? "] {
+                self.see(seen, 5, kind, |drawing| drawing.starts_with(kind));
+            }
+            for turn in [" presses a key ", " lets go a key "] {
+                self.see(seen, 5, turn, |drawing| drawing.contains(turn));
+            }
+        }
+        self.see(&lists, 20, "23 place", |drawing| drawing.starts_with("23 place "));
+    }
+
+    /// Short and long groups, and keys that are held over them.
+    fn see_groups(&self) {
+        let drawings = self.to(|line| line.starts_with("undo "));
+        let lines = drawings.iter().flat_map(|drawing| drawing.lines());
+        let groups: Vec<&str> = lines.filter(|line| line.contains("  group  ")).collect();
+        let length = |line: &str| line.split_whitespace().count() - 2;
+        for exact in 2..10 {
+            self.see(&groups, 10, &format!("length {exact}"), |line| length(line) == exact);
+        }
+        let answers = self.to(|line| line.starts_with("group"));
+        self.see(&answers, 0, "more than 255 codes", |answer| longest(answer) > 255);
+        self.see(&groups, 100, "a key held over", is_held_over);
+    }
+
+    /// As many codes of a session as are kept, just less and just more.
+    fn see_more(&self) {
+        let drawings = self.to(|line| line.starts_with("undo "));
+        for (count, more) in [(8191, false), (8192, false), (8192, true)] {
+            let count = format!("codes: {count};");
+            self.see(&drawings, 0, &count, |drawing| {
+                drawing.contains(&count) && drawing.contains("only the first") == more
+            });
+        }
+    }
+}
+
+/// How long the longest group is that an answer tells.
+fn longest(answer: &str) -> usize {
+    let words: Vec<&str> = answer.split(' ').collect();
+    let groups = words.windows(3).filter(|words| words[0] == "group");
+    let place = |word: &str| word.parse().unwrap_or(0);
+    groups.map(|words| place(words[2]) - place(words[1])).max().unwrap_or(0_usize)
+}
+
+/// Whether a group has a release whose press is not in it.
+fn is_held_over(line: &str) -> bool {
+    let codes: Vec<&str> = line.split_whitespace().skip(2).collect();
+    let keys = |sign| codes.iter().filter_map(move |code| code.strip_prefix(sign));
+    let pressed: HashSet<&str> = keys('+').collect();
+    keys('-').any(|key| !pressed.contains(key))
+}
+
+#[test]
+fn undo_groups_of_every_kind_occur() {
+    for seed in 1..5 {
+        let seen = Grouped::new(seed);
+        // About a tenth of all lines.
+        assert!((3500..7500).contains(&seen.answers.len()), "seed {seed}");
+        seen.see_answers();
+        seen.see_drawings();
+        seen.see_groups();
+        seen.see_more();
+    }
+}
+
+#[test]
+fn the_longest_lists_are_cut_into_groups() {
+    let mut lines = script(1, 60_000);
+    lines.retain(|line| line.len() == LONGEST - 1 || line.len() == LONGEST);
+    for word in ["group", "groups", "fetch", "undo"] {
+        assert!(count(&lines, word) > 0, "{word}");
     }
 }

@@ -80,6 +80,7 @@ int main(void)
     bools();
     routine();
     carry();
+    undo();
     printf("checks: %u made, %u failed\n", checked, failed);
     return failed ? 1 : 0;
 }

@@ -49,5 +49,6 @@ void hidden(void);
 void bools(void);
 void routine(void);
 void carry(void);
+void undo(void);
 
 #endif

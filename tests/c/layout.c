@@ -35,6 +35,12 @@ static void told_by_the_compiler(void)
     SAME(sizeof(struct panel_record), 88);
     SAME(offsetof(struct panel_record, byte), 72);
     SAME(offsetof(struct panel_record, end), 82);
+    SAME(sizeof(struct panel_standing), 32);
+    SAME(offsetof(struct panel_standing, end), 24);
+    SAME(sizeof(struct panel_part), 24);
+    SAME(offsetof(struct panel_part, length), 16);
+    SAME(sizeof(struct panel_handed), 24);
+    SAME(offsetof(struct panel_handed, tail), 16);
     group_ends();
 }
 

@@ -38,6 +38,10 @@ see_long_answers() {
     gives 0 ./panel "$work/many"
     [ "$(sed -n 1p "$work/out")" = show ] || failed "show isn't the first line"
     [ "$(grep -n -A 1 -x '    \.' "$work/out" | grep -c -e '-irq  *0 yes$' -e '-held 0 0  *0 no$')" -eq 2 ] || failed "what follows an answer of many lines"
+    printf 'undo 90\nirq\nundo 3C :\nirq\nundo\nirq\n' >"$work/many"
+    gives 1 ./panel "$work/many"
+    [ "$(grep -c '^    23 the trim key' "$work/out")" -eq 1 ] || failed "a declined undo isn't below its command"
+    [ "$(grep -c '^irq  *0 yes$' "$work/out")" -eq 3 ] || failed "what follows undo groups that are drawn"
     gives 1 ./panel examples/long_line.in
     has out '? line too long'
     seen "answers of many lines stand below their command"

@@ -4,11 +4,12 @@
 # Ready once, a prompt before each command and one at the end; a comment has no answer. Nothing of that without a terminal.
 see_terminal() {
     command -v script >/dev/null || failed "no script, a program of bsdutils: it makes the terminal"
-    printf '%s\n' 'irq' '# nothing' '' 'show' 'held 9 9' >"$work/typed"
+    printf '%s\n' 'irq' '# nothing' '' 'show' 'undo 90' 'held 9 9' >"$work/typed"
     gives 0 script -qec ./panel /dev/null <"$work/typed"
     tr -d '\r' <"$work/out" >"$work/plain"
     [ "$(grep -c 'panel: ready' "$work/plain")" -eq 1 ] || failed "a terminal isn't told once that the console is ready"
-    [ "$(grep -o '> ' "$work/plain" | wc -l)" -eq 6 ] || failed "other than six prompts"
+    [ "$(grep -o '> ' "$work/plain" | wc -l)" -eq 7 ] || failed "other than seven prompts"
+    ! grep -q '^> \.' "$work/plain" || failed "a prompt within an answer of many lines"
     grep -q '0 yes$' "$work/plain" && grep -q '7 no$' "$work/plain" || failed "an answer is missing on a terminal"
     gives 0 script -qec './panel | cat' /dev/null <"$work/typed"
     ! grep -q -e '> ' -e ready "$work/out" || failed "something is added to answers that go elsewhere"

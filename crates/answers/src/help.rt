@@ -22,10 +22,14 @@ pub fn commands(p: Page) -> Page
         pack ROOM CALL ..  the calls, with ; between them, as a packed list for a buffer of ROOM bytes\n\
         unpack HEX..       the calls of a packed list\n\
         play HEX..         the panel is reset and makes the calls of a packed list\n\
+        group RULE TRIM PLACE C0 ..  what stands at a place of a list of codes, cut into undo groups: group FIRST END, open PLACE or end\n\
+        groups RULE TRIM C0 ..       all undo groups of a list of codes\n\
+        fetch RULE TRIM PLACE C0 ..  the codes of the group that begins at a place\n\
+        undo TRIM [: C0 ..]          the undo groups of the codes fetched since the last restart, or of a list, drawn\n\
         show               the panel drawn: # held, . open, + and - while the contact settles\n\
         help               this list; help numbers lists what a call can answer\n\
         quit               ends the input\n\
-        Samples, addresses and bytes are hexadecimal; counts, rows and columns are decimal; COL is 0 to 11, 12 or SF.\n\
+        Samples, addresses, bytes and codes are hexadecimal; counts, rows, columns, rules and places are decimal; COL is 0 to 11, 12 or SF.\n\
         The answer is the call's number, 0 if it was done, and what was asked for.\n\
         .\n",
     )
@@ -49,6 +53,10 @@ pub fn numbers(p: Page) -> Page
         8  look, access, question: the panel's state is unsound; never after a reset\n\
         20 packed list: cut short or padded wrongly\n\
         21 packed list: no room\n\
+        22 undo groups: the place is beyond the end\n\
+        23 undo groups: the trim key's code is no press of a key, or some code no press or release of one\n\
+        24 undo groups: a press of a key that is down, or a release of one that is up\n\
+        25 undo groups: the place is inside a group, or past the start of an open one\n\
         9 was given by no call, is retired and gets no new use.\n\
         .\n",
     )

@@ -6,17 +6,20 @@ use text::page::least;
 ghost use Prim.Native.Nat.{_≤_};
 
 // What is wanted of a word: a sample; an address or a byte; how many bytes to read; a row or a column that is asked for; the row and the column of a contact;
-// how many looks to make; the bytes of a buffer; the digits of a packed list.
+// how many looks to make; the bytes of a buffer; the digits of a packed list; a code; by which rule and at which place a list of codes is cut.
 pub enum Kind {
     Sample,
     Byte,
     Count,
-    Place,
+    Asked,
     Row,
     Col,
     Looks,
     Room,
     Packed,
+    Code,
+    Rule,
+    Place,
 }
 
 // What is wrong, the word that is, by its places, and what was wanted of it.
@@ -75,6 +78,7 @@ fn not_a_number(p: Page, kind: Kind) -> Page {
         Kind::Sample => out::text(p, b"? not a hexadecimal number: "),
         Kind::Byte => out::text(p, b"? not a hexadecimal number: "),
         Kind::Packed => out::text(p, b"? not a hexadecimal number: "),
+        Kind::Code => out::text(p, b"? not a hexadecimal number: "),
         _ => out::text(p, b"? not a decimal number: "),
     }
 }
@@ -91,6 +95,9 @@ fn digits_wanted(p: Page, kind: Kind) -> Page
         Kind::Room => out::text(p, b" (the room is decimal)\n"),
         Kind::Packed => out::text(p, b" (a packed list is hexadecimal, two digits a byte)\n"),
         Kind::Col => out::text(p, b" (columns are 0 to 12, or SF)\n"),
+        Kind::Code => out::text(p, b" (codes are hexadecimal)\n"),
+        Kind::Rule => out::text(p, b" (rules and places are decimal)\n"),
+        Kind::Place => out::text(p, b" (rules and places are decimal)\n"),
         _ => out::text(p, b" (rows and columns are decimal)\n"),
     }
 }
@@ -100,6 +107,7 @@ fn not_in_range(p: Page, kind: Kind) -> Page {
     match kind {
         Kind::Row => out::text(p, b"? not a row: "),
         Kind::Col => out::text(p, b"? not a column: "),
+        Kind::Rule => out::text(p, b"? not a rule: "),
         _ => out::text(p, b"? number too large: "),
     }
 }
@@ -112,10 +120,12 @@ fn range_wanted(p: Page, kind: Kind) -> Page
         Kind::Sample => out::text(p, b" (a sample is at most FFFF)\n"),
         Kind::Byte => out::text(p, b" (an address or a byte is at most FF)\n"),
         Kind::Count => out::text(p, b" (1024 at most)\n"),
-        Kind::Place => out::text(p, b" (255 at most)\n"),
+        Kind::Asked => out::text(p, b" (255 at most)\n"),
         Kind::Row => out::text(p, b" (rows are 0 to 7)\n"),
         Kind::Col => out::text(p, b" (columns are 0 to 12, or SF)\n"),
         Kind::Looks => out::text(p, b" (65535 at most)\n"),
+        Kind::Code => out::text(p, b" (a code is at most FF)\n"),
+        Kind::Rule => out::text(p, b" (rule 1 is the only one)\n"),
         _ => out::text(p, b" (999999 at most)\n"),
     }
 }

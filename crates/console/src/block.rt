@@ -35,7 +35,7 @@ fn made(s: Session, samples: &[u16]) -> Session {
 
 // `looks S0 S1 ..`
 pub(crate) fn looks(s: Session, rest: &[u8], list: &mut [u16]) -> Session {
-    let listed = list_of(rest, Kind::Sample, list);
+    let listed = list_of(rest, 0, Kind::Sample, list);
     let count = listed.count;
     let heard = listed.heard;
     match heard {

@@ -1,6 +1,7 @@
 // `unpack HEX..` and `play HEX..`: what a packed list holds, and the panel after it.
 use crate::commands::Heard;
 use crate::commands::bytes_of;
+use crate::made::make;
 use crate::recorder::Tape;
 use crate::recorder::recorded;
 use crate::reply::on_page;
@@ -16,8 +17,8 @@ use crate::typed::plain;
 use answers::out;
 use calls::Done;
 use carry::call::Call;
-use carry::player;
 use carry::reader;
+use state::Module;
 use text::list::as_bytes;
 use text::page::Page;
 use text::page::least;
@@ -33,10 +34,12 @@ struct Shown {
     more: bool,
 }
 
-// A packed list that was played and is gone through: up to which place, and whether there is more of it.
+// A packed list that is being played: up to which place, and whether there is more of it.
 struct Walk {
+    panel: Module,
     tape: Tape,
     contacts: [u16; 8],
+    codes: usize,
     byte: usize,
     bit: u8,
     more: bool,
@@ -166,8 +169,8 @@ fn contacts_after(contacts: [u16; 8], call: Call) -> [u16; 8] {
     eight_of(values)
 }
 
-// One call more is gone through, or there is none.
-fn walked_on(w: Walk, bytes: &[u8]) -> Walk {
+// One call more is made, or there is none.
+fn walked_on(w: Walk, bytes: &[u8], fetched: &mut [u8]) -> Walk {
     let record = reader::record_at(bytes, w.byte, w.bit);
     let mut next = w;
     if record.end | (record.number != numbers::DONE) {
@@ -175,65 +178,71 @@ fn walked_on(w: Walk, bytes: &[u8]) -> Walk {
         return next;
     }
     let call = record.call;
+    let made = make(w.panel, call, fetched, w.codes);
+    let done = made.done;
+    let panel = done.after;
     let contacts = w.contacts;
     let after = contacts_after(contacts, call);
+    next.panel = panel;
     next.tape = recorded(w.tape, call);
     next.contacts = after;
+    next.codes = made.codes;
     next.byte = record.byte;
     next.bit = record.bit;
     next
 }
 
-// The session after the calls of a list that was played: they are recorded behind a reset, and the contacts are as the last look's samples.
-fn walked(s: Session, bytes: &[u8]) -> Session {
+// The session after the calls of a list, made on a panel that was reset: they are recorded behind a reset, and the contacts are as the last look's samples.
+fn walked(s: Session, bytes: &[u8], fetched: &mut [u8]) -> Session {
     let contacts = s.contacts;
     let mut w = Walk {
+        panel: state::fresh(),
         tape: recorded(s.tape, plain(RESET, 0, 0)),
         contacts: contacts,
+        codes: 0,
         byte: 0,
         bit: 0,
         more: true,
     };
     let mut turns = u64::MAX;
     while turns > 0 && w.more {
-        w = walked_on(w, bytes);
+        w = walked_on(w, bytes, fetched);
         turns -= 1;
     }
+    let panel = w.panel;
     let tape = w.tape;
     let after = w.contacts;
     let mut next = s;
+    next.panel = panel;
     next.tape = tape;
     next.contacts = after;
+    next.codes = w.codes;
     next
 }
 
 // The panel is reset and makes the calls of a packed list. A list that is none is declined, and nothing is played.
-pub(crate) fn played(s: Session, bytes: &[u8]) -> Outcome {
-    let done = player::play(bytes);
-    let number = done.number;
+pub(crate) fn played(s: Session, bytes: &[u8], fetched: &mut [u8]) -> Outcome {
+    let number = reader::check(bytes);
     if number != numbers::DONE {
         return Outcome {
             s: s,
             number: number,
         };
     }
-    let panel = done.after;
-    let mut next = walked(s, bytes);
-    next.panel = panel;
     Outcome {
-        s: next,
+        s: walked(s, bytes, fetched),
         number: number,
     }
 }
 
 // The number of a list, which is played if it is one.
-fn play_list(s: Session, bytes: &[u8]) -> Session {
-    let p = played(s, bytes);
+fn play_list(s: Session, bytes: &[u8], fetched: &mut [u8]) -> Session {
+    let p = played(s, bytes, fetched);
     numbered(p.s, p.number)
 }
 
 // `play HEX..`
-pub(crate) fn play(s: Session, rest: &[u8]) -> Session
+pub(crate) fn play(s: Session, rest: &[u8], fetched: &mut [u8]) -> Session
     requires { ⌜ length (now rest) ≤ 16384 ⌝ }
 {
     let mut bytes = [0u8; 8192];
@@ -242,6 +251,6 @@ pub(crate) fn play(s: Session, rest: &[u8]) -> Session
     let heard = listed.heard;
     match heard {
         Heard::Wrong(wrong) => refused(s, rest, wrong, b"play HEX.."),
-        Heard::Well => play_list(s, &bytes[0..count]),
+        Heard::Well => play_list(s, &bytes[0..count], fetched),
     }
 }

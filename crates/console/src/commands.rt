@@ -44,6 +44,7 @@ fn base_of(kind: Kind) -> usize
     match kind {
         Kind::Sample => 16,
         Kind::Byte => 16,
+        Kind::Code => 16,
         _ => 10,
     }
 }
@@ -57,6 +58,8 @@ fn most_of(kind: Kind) -> u32 {
         Kind::Col => 12,
         Kind::Looks => 65535,
         Kind::Room => 999999,
+        Kind::Rule => 1,
+        Kind::Place => 999999,
         _ => 0xFF,
     }
 }
@@ -118,6 +121,15 @@ pub(crate) fn of_word(fault: Fault, kind: Kind, start: usize, end: usize) -> Wro
     }
 }
 
+// What is wrong with a word that is no number of this kind, or not the one that is wanted.
+pub(crate) fn wrong_of(told: Told, kind: Kind) -> Wrong {
+    let number = told.number;
+    match number {
+        Number::Wrong(fault) => of_word(fault, kind, told.start, told.end),
+        Number::Value(_) => of_word(Fault::TooLarge, kind, told.start, told.end),
+    }
+}
+
 // A word too many.
 pub(crate) fn too_many() -> Wrong {
     of_word(Fault::TooMany, Kind::Byte, 0, 0)
@@ -143,11 +155,12 @@ pub(crate) fn is_empty(line: &[u8]) -> bool {
     is_end(line, 0)
 }
 
-// The numbers of all words, samples or bytes, go to the list.
-pub(crate) fn list_of(line: &[u8], kind: Kind, numbers: &mut [u16]) -> Listed
+// The numbers of all words from a place on, samples, bytes or codes, go to the list.
+pub(crate) fn list_of(line: &[u8], from: usize, kind: Kind, numbers: &mut [u16]) -> Listed
+    requires { ⌜ from ≤ length (now line) ⌝ }
     ensures { λ r. ⌜ r .count ≤ length (now (numbers .exit)) ⌝ }
 {
-    let mut at: usize = 0;
+    let mut at = from;
     let mut count: usize = 0;
     while count < numbers.len() {
         if is_end(line, at) {

@@ -3,6 +3,8 @@ mod block;
 mod carried;
 mod commands;
 mod fingers;
+mod groups;
+mod made;
 mod pack;
 mod perform;
 mod recorder;
@@ -27,7 +29,7 @@ struct Received {
 }
 
 // Answers every line that has ended, up to a `quit`, and holds the place where the next one begins.
-fn feed(s: Session, input: &[u8]) -> Session
+fn feed(s: Session, input: &[u8], fetched: &mut [u8]) -> Session
     ensures { λ r. ⌜ r .held ≤ length (now (input .entry)) ⌝ }
 {
     let mut list = [0u16; 8192];
@@ -35,8 +37,9 @@ fn feed(s: Session, input: &[u8]) -> Session
     let mut i: usize = 0;
     let mut end = newline_from(input, i);
     while end < input.len() && next.on {
-        next = perform::perform(next, &input[i..end], &mut list);
+        let start = i;
         i = end + 1;
+        next = perform::perform(next, &input[start..end], &mut list, fetched);
         end = newline_from(input, i);
     }
     next.held = i;
@@ -86,37 +89,50 @@ fn receive(input: &mut [u8]) -> Received
     }
 }
 
-// Waits for input, answers every line that has ended, and keeps the one that has not.
-fn turn(s: Session, input: &mut [u8]) -> Session
+// Answers every line of the input up to a place that has ended, and keeps the one that has not.
+fn answer(s: Session, input: &mut [u8], end: usize, fetched: &mut [u8]) -> Session
+    requires { ⌜ end ≤ length (now input) ⌝ }
+    ensures { λ r. ⌜ r .held ≤ 16385 ⌝ }
+{
+    let mut next = feed(s, &input[0..end], fetched);
+    let from = next.held;
+    next.held = keep(input, from, end);
+    next
+}
+
+// Waits for input, and answers it.
+fn turn(s: Session, input: &mut [u8], fetched: &mut [u8]) -> Session
     requires { ⌜ (s .held ≤ 16385) × (65536 ≤ length (now input)) ⌝ }
     ensures { λ r. ⌜ r .held ≤ 16385 ⌝ }
 {
     let held = s.held;
     let n = input.len();
     let received = receive(&mut input[held..n]);
-    let end = held + received.count;
-    let fed = feed(s, &input[0..end]);
-    let from = fed.held;
-    let kept = keep(input, from, end);
-    let mut next = written(fed, received.more);
-    next.held = kept;
-    next
+    let next = answer(s, input, held + received.count, fetched);
+    let mut last = written(next, received.more);
+    last.held = next.held;
+    last
 }
 
 fn main() {
     let mut input = io::large_buffer();
-    let mut s = start::begun(Session {
-        panel: state::fresh(),
-        contacts: [0; 8],
-        page: page::empty(),
-        tape: recorder::idle(),
-        held: 0,
-        on: true,
-    });
+    let mut fetched = [0u8; made::KEPT];
+    let mut s = start::begun(
+        Session {
+            panel: state::fresh(),
+            contacts: [0; 8],
+            codes: 0,
+            page: page::empty(),
+            tape: recorder::idle(),
+            held: 0,
+            on: true,
+        },
+        &mut fetched,
+    );
     s.held = 0;
     let mut turns = u64::MAX;
     while turns > 0 && s.on {
-        s = turn(s, &mut input);
+        s = turn(s, &mut input, &mut fetched);
         turns -= 1;
     }
     recorder::ended(s);

@@ -5,6 +5,8 @@ use crate::commands;
 use crate::commands::Heard;
 use crate::commands::Pair;
 use crate::fingers;
+use crate::groups;
+use crate::made::make;
 use crate::pack;
 use crate::recorder::heeded;
 use crate::recorder::noted;
@@ -17,7 +19,6 @@ use crate::session::Session;
 use crate::typed::LOOK;
 use crate::typed::NONE;
 use crate::typed::READ;
-use crate::typed::WRITE;
 use crate::typed::call_of;
 use crate::typed::eight_of;
 use crate::typed::kind_of;
@@ -31,9 +32,7 @@ use calls::Done;
 use carry::call::Call;
 use keys::Col;
 use keys::Row;
-use state::Module;
 use text::lines::without_return;
-use text::list::as_bytes;
 use text::page::least;
 use text::word::is_same;
 use text::word::word_from;
@@ -56,73 +55,43 @@ fn looked(s: Session, samples: [u16; 32], done: Done) -> Session {
     told(next, done)
 }
 
-// A look with the first samples of a list. More than eight are declined, however many they are.
-fn look_with(panel: Module, samples: &[u16], count: usize) -> Done {
-    let n = least(count, samples.len());
-    calls::look(panel, &samples[0..n])
-}
-
-// Makes a look.
-fn look(s: Session, call: Call) -> Session {
-    let samples = call.values;
-    let done = look_with(s.panel, &samples, call.count as usize);
-    looked(s, samples, done)
-}
-
-// Makes a write. More than 32 bytes are declined, however many they are.
-fn write(s: Session, call: Call) -> Session {
-    let values = call.values;
-    let mut bytes = [0u8; 33];
-    as_bytes(&values, &mut bytes);
-    let n = least(call.count as usize, 33);
-    told(
-        s,
-        calls::write(s.panel, (call.first % 256) as u8, &bytes[0..n]),
-    )
-}
-
-// A read from an address on, as many bytes as the buffer has.
-fn read_in(s: Session, first: u8, bytes: &mut [u8]) -> Session {
-    let done = calls::read(s.panel, first, bytes);
-    bytes_read(s, done, bytes)
-}
-
-// Makes a read. More than 32 bytes are declined, however many they are.
-fn read(s: Session, call: Call) -> Session {
-    let mut bytes = [0u8; 33];
-    let n = least(call.count as usize, 33);
-    read_in(s, (call.first % 256) as u8, &mut bytes[0..n])
+// After a read of so many bytes: they are told, if it was done.
+fn took(s: Session, bytes: [u8; 33], count: usize, done: Done) -> Session {
+    let n = least(count, 33);
+    bytes_read(s, done, &bytes[0..n])
 }
 
 // Makes a call and answers it.
-fn made(s: Session, call: Call) -> Session {
+fn answered(s: Session, call: Call, fetched: &mut [u8]) -> Session {
+    let made = make(s.panel, call, fetched, s.codes);
     let kind = call.kind;
+    let mut next = s;
+    next.codes = made.codes;
     if kind == LOOK {
-        return look(s, call);
-    }
-    if kind == WRITE {
-        return write(s, call);
+        let samples = call.values;
+        return looked(next, samples, made.done);
     }
     if kind == READ {
-        return read(s, call);
+        let bytes = made.bytes;
+        return took(next, bytes, call.count as usize, made.done);
     }
-    told(s, calls::reset())
+    told(next, made.done)
 }
 
 // `look S0 S1 ..`, `write AA B0 B1 ..`, `read AA COUNT`, `reset`
-fn called(s: Session, kind: u16, rest: &[u8], list: &mut [u16]) -> Session {
+fn called(s: Session, kind: u16, rest: &[u8], list: &mut [u16], fetched: &mut [u8]) -> Session {
     let typed = call_of(kind, rest, list);
     let call = typed.call;
     let heard = typed.heard;
     match heard {
         Heard::Wrong(wrong) => on_page(s, refused_call(s.page, kind, rest, wrong)),
-        Heard::Well => noted(made(s, call), call),
+        Heard::Well => noted(answered(s, call, fetched), call),
     }
 }
 
 // `held ROW COL`
 fn held(s: Session, rest: &[u8]) -> Session {
-    let pair = commands::pair_of(rest, Kind::Place, Kind::Place);
+    let pair = commands::pair_of(rest, Kind::Asked, Kind::Asked);
     match pair {
         Pair::Wrong(wrong) => refused(s, rest, wrong, b"held ROW COL"),
         Pair::Numbers(row, col) => {
@@ -224,8 +193,25 @@ fn of_fingers(s: Session, word: &[u8], rest: &[u8]) -> Session {
     of_panel(s, word, rest)
 }
 
+// The commands of undo groups.
+fn of_groups(s: Session, word: &[u8], rest: &[u8], list: &mut [u16], fetched: &[u8]) -> Session {
+    if is_same(word, b"group") {
+        return groups::group(s, rest, list);
+    }
+    if is_same(word, b"groups") {
+        return groups::groups(s, rest, list);
+    }
+    if is_same(word, b"fetch") {
+        return groups::fetch(s, rest, list);
+    }
+    if is_same(word, b"undo") {
+        return groups::undo(s, rest, list, fetched);
+    }
+    of_fingers(s, word, rest)
+}
+
 // The commands of packed lists.
-fn of_lists(s: Session, word: &[u8], rest: &[u8], list: &mut [u16]) -> Session
+fn of_lists(s: Session, word: &[u8], rest: &[u8], list: &mut [u16], fetched: &mut [u8]) -> Session
     requires { ⌜ length (now rest) ≤ 16384 ⌝ }
 {
     if is_same(word, b"pack") {
@@ -235,28 +221,28 @@ fn of_lists(s: Session, word: &[u8], rest: &[u8], list: &mut [u16]) -> Session
         return carried::unpack(s, rest);
     }
     if is_same(word, b"play") {
-        return carried::play(s, rest);
+        return carried::play(s, rest, fetched);
     }
-    of_fingers(s, word, rest)
+    of_groups(s, word, rest, list, fetched)
 }
 
 // Does the command that a word names, with the words behind it, and answers it.
 // Each group of commands has a function, since the check of many arms in one grows with their square.
-fn named(s: Session, word: &[u8], rest: &[u8], list: &mut [u16]) -> Session
+fn named(s: Session, word: &[u8], rest: &[u8], list: &mut [u16], fetched: &mut [u8]) -> Session
     requires { ⌜ length (now rest) ≤ 16384 ⌝ }
 {
     let kind = kind_of(word);
     if kind != NONE {
-        return called(s, kind, rest, list);
+        return called(s, kind, rest, list, fetched);
     }
     if is_same(word, b"looks") {
         return block::looks(s, rest, list);
     }
-    of_lists(s, word, rest, list)
+    of_lists(s, word, rest, list, fetched)
 }
 
 // Does the command of a line that is not too long. A blank line and a comment ask for nothing.
-fn asked(s: Session, line: &[u8], list: &mut [u16]) -> Session
+fn asked(s: Session, line: &[u8], list: &mut [u16], fetched: &mut [u8]) -> Session
     requires { ⌜ length (now line) ≤ 16384 ⌝ }
 {
     let w = word_from(line, 0);
@@ -269,14 +255,14 @@ fn asked(s: Session, line: &[u8], list: &mut [u16]) -> Session
         return s;
     }
     let n = line.len();
-    named(s, &line[start..end], &line[end..n], list)
+    named(s, &line[start..end], &line[end..n], list, fetched)
 }
 
-// Does what a line asks for and answers it; its numbers go to the list.
-pub(crate) fn perform(s: Session, line: &[u8], list: &mut [u16]) -> Session {
+// Does what a line asks for and answers it; its numbers go to the list, and the codes that it fetches to those fetched.
+pub(crate) fn perform(s: Session, line: &[u8], list: &mut [u16], fetched: &mut [u8]) -> Session {
     if LONGEST < line.len() {
         return on_page(s, too_long(s.page));
     }
     let n = without_return(line);
-    heeded(asked(s, &line[0..n], list))
+    heeded(asked(s, &line[0..n], list, fetched))
 }

@@ -7,6 +7,8 @@ pub(crate) struct Session {
     pub panel: Module,
     // the contacts, as fingers hold them: a sample for each row
     pub contacts: [u16; 8],
+    // how many codes were fetched since the last restart; one more than are kept if there were more
+    pub codes: usize,
     // the answers that are not written out yet
     pub page: Page,
     // the recording

@@ -154,7 +154,7 @@ fn read_named(place: usize, bytes: &mut [u8]) -> Got
 }
 
 // Plays what was read, and records it first if there is a file to record to.
-fn played_first(s: Session, bytes: &[u8], record: usize) -> Session {
+fn played_first(s: Session, bytes: &[u8], record: usize, fetched: &mut [u8]) -> Session {
     if reader::check(bytes) != numbers::DONE {
         return stopped(s, files::no_list(s.page));
     }
@@ -162,7 +162,7 @@ fn played_first(s: Session, bytes: &[u8], record: usize) -> Session {
     if !next.on {
         return next;
     }
-    let p = played(next, bytes);
+    let p = played(next, bytes, fetched);
     p.s
 }
 
@@ -174,7 +174,7 @@ fn space() -> [u8; 1048577]
 }
 
 // Plays the file at a place of the words.
-fn played_from(s: Session, play: usize, record: usize) -> Session {
+fn played_from(s: Session, play: usize, record: usize, fetched: &mut [u8]) -> Session {
     let mut bytes = space();
     let got = read_named(play, &mut bytes);
     let count = got.count;
@@ -184,11 +184,11 @@ fn played_from(s: Session, play: usize, record: usize) -> Session {
     if LONGEST < count {
         return stopped(s, files::too_long(s.page));
     }
-    played_first(s, &bytes[0..count], record)
+    played_first(s, &bytes[0..count], record, fetched)
 }
 
-// The session before its first line is read.
-pub(crate) fn begun(s: Session) -> Session {
+// The session before its first line is read; the codes that a file's reads fetch go to those fetched.
+pub(crate) fn begun(s: Session, fetched: &mut [u8]) -> Session {
     let named = files_named();
     if !named.known {
         return stopped(s, files::unknown(s.page));
@@ -198,5 +198,5 @@ pub(crate) fn begun(s: Session) -> Session {
     if play < 1 {
         return recorded_to(s, record);
     }
-    played_from(s, play, record)
+    played_from(s, play, record, fetched)
 }

@@ -124,7 +124,7 @@ fn with_list(kind: u16, first: u16, list: &[u16]) -> Typed {
 
 // What stands behind `look`.
 fn look(rest: &[u8], list: &mut [u16]) -> Typed {
-    let listed = list_of(rest, Kind::Sample, list);
+    let listed = list_of(rest, 0, Kind::Sample, list);
     let count = listed.count;
     let heard = listed.heard;
     match heard {
@@ -144,7 +144,7 @@ fn write_list(list: &[u16]) -> Typed {
 
 // What stands behind `write`.
 fn write(rest: &[u8], list: &mut [u16]) -> Typed {
-    let listed = list_of(rest, Kind::Byte, list);
+    let listed = list_of(rest, 0, Kind::Byte, list);
     let count = listed.count;
     let heard = listed.heard;
     match heard {

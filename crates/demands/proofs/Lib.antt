@@ -23,3 +23,4 @@ pub mod Opened
 pub mod Retired
 pub mod Hidden
 pub mod RefutedHidden
+pub mod Fetched

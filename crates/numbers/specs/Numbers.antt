@@ -53,6 +53,22 @@ cutShort = 20
 abbrev pub noRoom : ℕ
 noRoom = 21
 
+-- "place beyond the end"
+abbrev pub beyondEnd : ℕ
+beyondEnd = 22
+
+-- "a code, the trim key's included, that isn't a press (for the trim key) or a press or release of rows 0 to 7, columns 0 to 12"
+abbrev pub badCode : ℕ
+badCode = 23
+
+-- "a press of a key that is down or a release of one that is up"
+abbrev pub badChange : ℕ
+badChange = 24
+
+-- "place before the end that is inside a group or past the start of an open tail"
+abbrev pub insideGroup : ℕ
+insideGroup = 25
+
 infix 70 _gives_
 pub data Line : Type 0 where
   _gives_ : Bool → ℕ → Line

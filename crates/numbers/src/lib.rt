@@ -32,3 +32,15 @@ pub const CUT_SHORT: u8 = 20;
 
 // Packed list: no room for it.
 pub const NO_ROOM: u8 = 21;
+
+// Undo groups: the place is beyond the end.
+pub const BEYOND_END: u8 = 22;
+
+// Undo groups: the trim key's code is no press of a key, or some code no press or release of one.
+pub const BAD_CODE: u8 = 23;
+
+// Undo groups: a press of a key that is down, or a release of one that is up.
+pub const BAD_CHANGE: u8 = 24;
+
+// Undo groups: the place is inside a group, or past the start of an open one.
+pub const INSIDE_GROUP: u8 = 25;

@@ -147,7 +147,7 @@ impl Maker {
             24..=25 => self.drain(),
             26 => self.write_some(0x02, 1),
             27 => self.write_some(0x02, 2),
-            28 if self.chance.one_in(4) => self.long_block(),
+            28 if self.chance.one_in(3) => self.long_block(),
             _ => self.clear(),
         }
         self.go_on_a_while();

@@ -68,6 +68,11 @@ impl Maker {
     /// A packed list is played, and the script goes on from there.
     fn play(&mut self, calls: &[Call]) {
         self.list("play", &packed(calls));
+        self.follow(calls);
+    }
+
+    /// Contacts and size are as they are behind a list that is played.
+    pub(super) fn follow(&mut self, calls: &[Call]) {
         let look = calls.iter().rev().find_map(|call| match call {
             Call::Look(samples) => Some(samples),
             _ => None,
@@ -114,7 +119,7 @@ fn pack_line(calls: &[Call]) -> String {
 }
 
 /// The line of a command with the packed list of as many of these calls as it can hold.
-fn list_line(command: &str, calls: &[Call]) -> String {
+pub(super) fn list_line(command: &str, calls: &[Call]) -> String {
     let bytes = (LONGEST - 2 - command.len()) / 2;
     let list = packed(as_many(calls, 8 * bytes, bits));
     let digits: String = list.iter().map(|byte| format!("{byte:02X}")).collect();
@@ -166,13 +171,13 @@ impl Maker {
     }
 
     /// A list is played.
-    fn play_some(&mut self) {
+    pub(super) fn play_some(&mut self) {
         let calls = self.some_session();
         self.play(&calls);
     }
 
     /// A damaged list is played. Most often that is declined.
-    fn play_damaged(&mut self) {
+    pub(super) fn play_damaged(&mut self) {
         let calls = self.told(Maker::some_session);
         let list = self.damaged(&calls);
         self.list("play", &list);

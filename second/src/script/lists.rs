@@ -71,12 +71,13 @@ impl Maker {
     /// A call that mostly doesn't fit in a list.
     fn bad_call(&mut self) -> Call {
         let first = self.chance.pick(&ADDRESSES);
-        match self.chance.below(4) {
+        match self.chance.below(5) {
             0 => Call::Read(first, self.chance.pick(&[0, 0, 33, 34, 64, 256, 257, 288, 1024])),
             1 => {
                 let count = self.chance.pick(&LENGTHS);
                 Call::Write(first, self.some_bytes(first, count))
             }
+            2 => Call::Read(first, 0),
             _ => Call::Look(self.bad_samples()),
         }
     }

@@ -4,12 +4,14 @@ mod accesses;
 mod blocks;
 mod carry;
 mod fingers;
+mod groups;
 mod hidden;
 mod language;
 mod playing;
 mod readings;
 mod sessions;
 mod there_and_back;
+mod undo;
 
 use second::calls::Call;
 use second::carry::pack;
@@ -18,12 +20,18 @@ use second::console::Console;
 
 /// Runs a session of lines `command -> answer` on a module after reset.
 fn session(text: &str) {
+    answered(text);
+}
+
+/// A console that has answered these lines `command -> answer`.
+fn answered(text: &str) -> Console {
     let mut console = Console::new();
     for line in text.lines().map(str::trim).filter(|line| !line.is_empty()) {
         let (command, expected) = line.split_once(" -> ").expect(line);
         let answer = console.answer(command.as_bytes());
         assert_eq!(answer.as_deref(), Some(expected), "{command}\nin this session:{text}");
     }
+    console
 }
 
 /// A console that has been given these lines.

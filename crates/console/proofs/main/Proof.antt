@@ -8,10 +8,10 @@ use Rattle.console.proofs.main.Statement.{statement}
 use Rattle.console.proofs.main.Tie as tie
 
 abbrev Inv-loop : tie.InvT-loop
-Inv-loop input₀ s₀ turns₀ input s turns = (65536 ≡ length input) × (s .held ≤ 16385)
+Inv-loop input₀ fetched₀ s₀ turns₀ input fetched s turns = (65536 ≡ length input) × (8192 ≡ length fetched) × (s .held ≤ 16385)
 
 abbrev μ-loop : tie.MeasureT-loop
-μ-loop input₀ s₀ turns₀ input s turns = turns
+μ-loop input₀ fetched₀ s₀ turns₀ input fetched s turns = turns
 
 large-buffer-requires : tie.Need-large-buffer-requires Inv-loop μ-loop
 large-buffer-requires c κs = search needs
@@ -25,6 +25,9 @@ empty-requires c κs = search needs
 idle-requires : tie.Need-idle-requires Inv-loop μ-loop
 idle-requires c κs = search needs
 
+slice-aggregate-begun : tie.Need-slice-aggregate-begun Inv-loop μ-loop
+slice-aggregate-begun c = search needs
+
 begun-requires : tie.Need-begun-requires Inv-loop μ-loop
 begun-requires c κs = search needs
 
@@ -33,6 +36,9 @@ loop-holds c = search needs
 
 slice-aggregate-turn : tie.Need-slice-aggregate-turn Inv-loop μ-loop
 slice-aggregate-turn c = search needs
+
+slice-aggregate-turn-2 : tie.Need-slice-aggregate-turn-2 Inv-loop μ-loop
+slice-aggregate-turn-2 c = search needs
 
 turn-requires : tie.Need-turn-requires Inv-loop μ-loop
 turn-requires c κs = search needs
@@ -62,9 +68,11 @@ main-spec =
     fresh-requires
     empty-requires
     idle-requires
+    slice-aggregate-begun
     begun-requires
     loop-holds
     slice-aggregate-turn
+    slice-aggregate-turn-2
     turn-requires
     sub-turns
     loop-less

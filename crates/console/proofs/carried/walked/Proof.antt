@@ -1,15 +1,20 @@
 -- `carried::walked` is safe: every turn is one less.
 -- Assumes nothing.
 use Prim.Native.Nat.{_≤_}
+use mathlib.Core.Path.{_≡_}
+use lib.ListN.{length}
 use borrow.Author.Needs.{needs}
 use Rattle.console.proofs.carried.walked.Statement.{statement}
 use Rattle.console.proofs.carried.walked.Tie as tie
 
 abbrev Inv-loop : tie.InvT-loop
-Inv-loop s bytes w₀ turns₀ w turns = turns ≤ 18446744073709551615
+Inv-loop s bytes fetched₀ w₀ turns₀ fetched w turns = (turns ≤ 18446744073709551615) × (length fetched ≡ length fetched₀)
 
 abbrev μ-loop : tie.MeasureT-loop
-μ-loop s bytes w₀ turns₀ w turns = turns
+μ-loop s bytes fetched₀ w₀ turns₀ fetched w turns = turns
+
+fresh-requires : tie.Need-fresh-requires Inv-loop μ-loop
+fresh-requires c κs = search needs
 
 plain-requires : tie.Need-plain-requires Inv-loop μ-loop
 plain-requires c κs = search needs
@@ -32,6 +37,9 @@ loop-less c = search needs
 loop-again : tie.Need-loop-again Inv-loop μ-loop
 loop-again c = search needs
 
+same-length : tie.Need-same-length Inv-loop μ-loop
+same-length c = search needs
+
 returns : tie.Need-returns Inv-loop μ-loop
 returns c = search needs
 
@@ -41,6 +49,7 @@ walked-spec =
     (tie.spec
     Inv-loop
     μ-loop
+    fresh-requires
     plain-requires
     recorded-requires
     loop-holds
@@ -48,4 +57,5 @@ walked-spec =
     sub-turns
     loop-less
     loop-again
+    same-length
     returns)

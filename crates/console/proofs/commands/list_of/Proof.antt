@@ -9,10 +9,10 @@ use Rattle.console.proofs.commands.list_of.Statement.{statement}
 use Rattle.console.proofs.commands.list_of.Tie as tie
 
 abbrev Inv-loop : tie.InvT-loop
-Inv-loop line kind numbers₀ at₀ count₀ numbers at count = (at ≤ length line) × (count ≤ length numbers) × (length numbers ≡ length numbers₀)
+Inv-loop line from kind numbers₀ at₀ count₀ numbers at count = (at ≤ length line) × (count ≤ length numbers) × (length numbers ≡ length numbers₀)
 
 abbrev μ-loop : tie.MeasureT-loop
-μ-loop line kind numbers₀ at₀ count₀ numbers at count = length numbers - count
+μ-loop line from kind numbers₀ at₀ count₀ numbers at count = length numbers - count
 
 loop-holds : tie.Need-loop-holds Inv-loop μ-loop
 loop-holds c = search needs
