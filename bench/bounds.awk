@@ -24,9 +24,9 @@ function judge_instructions(bound, name,    it, slow) {
     return it <= most[bound] + 0
 }
 
-# A bound on bytes of stack.
-function judge_stack(bound, name,    it, limit) {
-    it = measured(name, "stack")
+# A bound on bytes of stack, or copied.
+function judge_bytes(bound, name,    it, limit) {
+    it = measured(name, kind[bound])
     limit = most[bound] * struct
     printf "  %-18s %d bytes, at most %d, %s structs: %s (%s)\n", what[bound], it, limit, most[bound], holds(it, limit), name
     return it <= limit
@@ -55,7 +55,7 @@ function judge_more_stack(bound, name,    single, it, limit) {
 function judge(bound,    name) {
     name = worst(begins[bound], kind[bound])
     if (name != "" && kind[bound] == "instructions") return judge_instructions(bound, name)
-    if (name != "" && kind[bound] == "stack") return judge_stack(bound, name)
+    if (name != "" && (kind[bound] == "stack" || kind[bound] == "copied")) return judge_bytes(bound, name)
     if (name != "" && kind[bound] == "calls" && worst(other[bound], "calls") != "" && calls[bound] > 0) return judge_calls(bound, name)
     if (name != "" && kind[bound] == "more stack" && worst(other[bound], "stack") != "") return judge_more_stack(bound, name)
     printf "  %-18s DOESN'T HOLD: no case '%s' or none to hold it to, or no such kind of bound: %s\n", what[bound], begins[bound], kind[bound]

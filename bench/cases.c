@@ -14,7 +14,10 @@ static struct panel seen;    /* as calm, two keys held, no special function key 
 static struct panel hidden;  /* the same, and every special function key held: all rows are hidden */
 static struct panel open;    /* size 8C, D 1, no key held */
 static struct panel full;    /* 15 codes wait, five keys held, every flag of a change set */
-static struct panel unsound; /* the same, failing the last test of soundness: all four marks */
+static struct panel none;    /* the same, no key held */
+static struct panel one;     /* the same, one key held */
+static struct panel all;     /* the same, every key held */
+static struct panel unsound; /* as full, failing the last test of soundness: all four marks */
 
 /* A calm look: the keys that are held stay closed, a special function key among them. */
 static const uint16_t calm_looks[][8] = {{0x0002, 0, 0, 0x0020, 0, 0, 0, 0x1000}};
@@ -85,7 +88,10 @@ const struct measured cases[] = {
     READS("read: EVTCODE, 1 code", full, PANEL_EVTCODE, 1, 0),
     READS("read: EVTCODE, 15 codes", full, PANEL_EVTCODE, 15, 0),
     READS("read: EVTCODE, 32 bytes", full, PANEL_EVTCODE, 32, 0),
-    READS("read: picture, 4 bytes", full, PANEL_KBDCODE0, 4, 0),
+    READS("read: picture, 0 held", none, PANEL_KBDCODE0, 4, 0),
+    READS("read: picture, 1 held", one, PANEL_KBDCODE0, 4, 0),
+    READS("read: picture, 5 held", full, PANEL_KBDCODE0, 4, 0),
+    READS("read: picture, 104 held", all, PANEL_KBDCODE0, 4, 0),
     READS("read: KBDRIS, KBDMIS", full, PANEL_KBDRIS, 2, 0),
     ASKS("question: held", full, 7, 12, 0),
     LINE("question: interrupt", full, 0),
@@ -194,18 +200,34 @@ static void make_typing(void)
     }
 }
 
+/* A module where 15 codes wait, after a look that leaves keys held. */
+static struct panel filled(const uint16_t *samples)
+{
+    struct panel panel = open;
+    gave(panel_look(&panel, burst_looks[0], 8));
+    gave(panel_look(&panel, samples, 8));
+    return panel;
+}
+
 /* The modules that the cases begin with. */
 static void make_modules(void)
 {
+    static const uint16_t no_key[8] = {0};
+    static const uint16_t a_key[8] = {0, 0, 0, 0, 0x0040, 0, 0, 0};
     static const uint16_t five[8] = {0x0102, 0, 0, 0x0020, 0x0400, 0, 0, 0x1000};
+    static const uint16_t matrix[8] = {0x0FFF, 0x0FFF, 0x0FFF, 0x0FFF, 0x0FFF, 0x0FFF, 0x0FFF, 0x0FFF};
+    static const uint16_t every[8] = {0x1FFF, 0x1FFF, 0x1FFF, 0x1FFF, 0x1FFF, 0x1FFF, 0x1FFF, 0x1FFF};
     calm = settled(sized(0x8C, 3), calm_looks[0]);
     small = settled(sized(0x22, 3), small_looks[0]);
     seen = settled(sized(0x8C, 3), seen_looks[0]);
     hidden = settled(seen, hidden_looks[0]);
     open = sized(0x8C, 1);
-    full = open;
-    gave(panel_look(&full, burst_looks[0], 8));
-    gave(panel_look(&full, five, 8));
+    none = filled(no_key);
+    one = filled(a_key);
+    full = filled(five);
+    /* the keys of the matrix first: a closed special function key hides them */
+    all = filled(matrix);
+    gave(panel_look(&all, every, 8));
     unsound = full;
     memset(unsound.seen, 1, sizeof unsound.seen);
 }

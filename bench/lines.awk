@@ -18,10 +18,11 @@ function median(name, n,    i, j, it, list, count) {
     return list[int((count + 1) / 2)]
 }
 
-# What the archive takes of a case: how many times plain C's time at -O2, how many times its instructions, how many instructions, and bytes of stack.
+# What the archive takes of a case: how many times plain C's time at -O2, how many times its instructions, how many instructions, bytes copied, and bytes of stack.
 function measured(name, by) {
     if (by == "time") return median(name, 4)
     if (by == "instructions") return cost[name, 1] / cost[name, 5]
     if (by == "calls") return cost[name, 1]
+    if (by == "copied") return cost[name, 3]
     return cost[name, 4]
 }

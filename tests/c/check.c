@@ -81,6 +81,7 @@ int main(void)
     routine();
     carry();
     undo();
+    picture();
     printf("checks: %u made, %u failed\n", checked, failed);
     return failed ? 1 : 0;
 }

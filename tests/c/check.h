@@ -50,5 +50,6 @@ void bools(void);
 void routine(void);
 void carry(void);
 void undo(void);
+void picture(void);
 
 #endif

@@ -5,11 +5,13 @@
 --    read-by                             what a read of the register that is told gives
 --    shown-code                          the picture shown, and the marks' lent parts, are a read of KBDCODE
 --    taken-code                          a code taken out of the queue's lent parts is a read of EVTCODE
---    read-end                            an empty buffer is filled with nothing
+--    read-end, read-last                 an empty buffer is filled with nothing; the last place
 --    rest x b, back x b e                what is lent of a buffer x once b is in its first place, and the buffer once that came back as e
 --    rest-length, back-length, back-is   their lengths, and what the buffer then holds
 --    read-next, read-more                one byte is read, and then the rest
 --    evtcode-at, evtcode-stays           the register at 0x10, and the address after it
+--    picture-at, picture-next            the picture's registers, and the address after each
+--    shown-picture                       what is shown by the rows' masks is the picture
 --    none-read                           a read of EVTCODE while no code waits
 --    read-at                             a read from an address that is told
 -- Assumes nothing.
@@ -32,7 +34,8 @@ use Rattle.registers.specs.Runs.{next}
 use Rattle.state.specs.declared.Module.{Module}
 use Rattle.state.specs.Module.{queue, withQueue, withRsint, withSeen}
 use Rattle.state.specs.Queue.{waits, oldest, taken}
-use Rattle.picture.specs.Picture.{picture, marked}
+use Rattle.picture.specs.Picture.{heldCodes, nth, picture, marked}
+use Rattle.picture.specs.Masks.{byMasks}
 use Rattle.access.specs.Bytes.{written, byteOf, readOut}
 use Rattle.access.specs.Accesses.{wrote, readAll, bytesRead}
 
@@ -69,6 +72,13 @@ pub read-end : (m : Module) (a : ℕ) (out : List ℕ) → length out < 1 → (m
 unfolding readAll bytesRead
 read-end m a [] h = (refl, refl)
 read-end m a (b ∷ out) h = absurd (omega arith)
+
+pub read-last : (m : Module) (a : ℕ) (x : List ℕ) (r : Register) (o : Module) (b : ℕ) → 1 ≤ length x → length x < 2 → r ≡ registerAt a → (b ≡ byteOf m r) × (o ≡ readOut m r)
+    → (o ≡ readAll m a (length x)) × (set x 0 b ≡ bytesRead m a (length x))
+unfolding readAll bytesRead
+read-last m a [] r o b h l er eb = absurd (omega arith)
+read-last m a (y ∷ []) r o b h l er eb = rw (eb .0, eb .1, er) (refl, refl)
+read-last m a (y ∷ z ∷ x) r o b h l er eb = absurd (omega arith)
 
 abbrev rest : List ℕ → ℕ → List ℕ
 rest x b = take (length (set x 0 b) - 1) (drop 1 (set x 0 b))
@@ -122,6 +132,27 @@ evtcode-at = refl
 pub evtcode-stays : 0x10 ≡ next 0x10
 unfolding next
 evtcode-stays = refl
+
+-- the picture's registers
+pub picture-at : (n : ℕ) → n < 4 → KBDCODE n ≡ registerAt (0x0B + n)
+unfolding registerAt
+picture-at zero h = refl
+picture-at (suc zero) h = refl
+picture-at (suc (suc zero)) h = refl
+picture-at (suc (suc (suc zero))) h = refl
+picture-at (suc (suc (suc (suc n)))) h = absurd (omega arith)
+
+pub picture-next : (n : ℕ) → n < 4 → 0x0B + (n + 1) ≡ next (0x0B + n)
+unfolding next
+picture-next zero h = refl
+picture-next (suc zero) h = refl
+picture-next (suc (suc zero)) h = refl
+picture-next (suc (suc (suc zero))) h = refl
+picture-next (suc (suc (suc (suc n)))) h = absurd (omega arith)
+
+pub shown-picture : (hs : List Bool) (ms : List ℕ) (n b : ℕ) → b ≡ nth n (byMasks 0 ms) → byMasks 0 ms ≡ heldCodes 0 hs → b ≡ picture n hs
+unfolding picture
+shown-picture hs ms n b e f = e ∙ ap (nth n) f
 
 -- no code waits
 module _ (m : Module) (none : m .count < 1) where

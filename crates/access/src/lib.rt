@@ -1,13 +1,18 @@
 // What the bytes of one access do to a module and a buffer.
 use keys::KEYS;
 use keys::NO_CODE;
+use picture::MASKS;
+use registers::KBDCODE0;
 use registers::Register;
 use state::Module;
 use state::PLACES;
+ghost use Prim.Native.Nat.{_+_, _≤_};
 ghost use mathlib.Core.Path.{_≡_};
 ghost use lib.ListN.{length};
 ghost use Rattle.words.specs.Words.{table};
-ghost use Rattle.state.specs.Module.{queue, withQueue};
+ghost use Rattle.state.specs.Module.{queue, withQueue, withRsint, withSeen};
+ghost use Rattle.picture.specs.Picture.{heldCodes};
+ghost use Rattle.picture.specs.Masks.{byMasks};
 ghost use Rattle.access.specs.Bytes as byte;
 ghost use Rattle.access.specs.Accesses.{bytesRead, readAll, wrote};
 ghost use Rattle.access.specs.Lent.{lent};
@@ -132,6 +137,22 @@ fn fetch(places: &mut [u8; PLACES], count: &mut u8, out: &mut [u8])
     fetch(places, count, &mut out[1..]);
 }
 
+// The picture, byte for byte, from register n on: one is shown and marked as read, and the rest of the buffer is filled by the same rule.
+fn show(masks: &[u16; MASKS], rsint: &mut bool, seen: &mut [bool; 4], n: u8, out: &mut [u8])
+    requires { ⌜ n + length (now out) ≤ 4 ⌝ }
+    ensures { λ _. ⌜ ((m : Module) → byMasks 0 (now (masks .entry)) ≡ heldCodes 0 (m .held) →
+        let before = withSeen (withRsint m (now (rsint .entry))) (now (seen .entry)) in
+        let after = withSeen (withRsint m (now (rsint .exit))) (now (seen .exit)) in
+        (after ≡ readAll before (0x0B + n) (length (now (out .entry)))) × (now (out .exit) ≡ bytesRead before (0x0B + n) (length (now (out .entry))))) ⌝ }
+{
+    if out.len() < 1 {
+        return;
+    }
+    out[0] = picture::shown(masks, n);
+    picture::mark(rsint, seen, n);
+    show(masks, rsint, seen, n + 1, &mut out[1..]);
+}
+
 // One byte is read into the buffer's first place, and the rest of the buffer is filled by the same rule.
 fn fill_from(
     held: &[bool; KEYS],
@@ -160,6 +181,9 @@ fn fill_from(
         seen,
         registers::register_at(first),
     );
+    if out.len() < 2 {
+        return;
+    }
     let next = registers::next_address(first);
     fill_from(held, shown, places, count, rsint, seen, next, &mut out[1..]);
 }
@@ -211,12 +235,31 @@ fn fill_bytes(m: Module, first: u16, out: &mut [u8]) -> Module
     after
 }
 
-// The buffer is filled by a read. EVTCODE's address stays, so that a read from there on has a rule of its own, which takes less stack.
+// The buffer is filled from the picture, from register n on. The held keys are looked at once, for the rows' masks.
+fn fill_picture(m: Module, n: u8, out: &mut [u8]) -> Module
+    requires { ⌜ n + length (now out) ≤ 4 ⌝ }
+    ensures { λ r. ⌜ (r ≡ readAll m (0x0B + n) (length (now (out .entry)))) × (now (out .exit) ≡ bytesRead m (0x0B + n) (length (now (out .entry)))) ⌝ }
+{
+    let held = m.held;
+    let masks = picture::masks(&held);
+    let mut rsint = m.rsint;
+    let mut seen = m.seen;
+    show(&masks, &mut rsint, &mut seen, n, out);
+    let mut after = m;
+    after.rsint = rsint;
+    after.seen = seen;
+    after
+}
+
+// The buffer is filled by a read. EVTCODE's address stays, and the picture's masks serve all of its bytes, so a read there has a rule of its own, which takes less stack.
 pub fn fill(m: Module, first: u16, out: &mut [u8]) -> Module
     ensures { λ r. ⌜ (r ≡ readAll m first (length (now (out .entry)))) × (now (out .exit) ≡ bytesRead m first (length (now (out .entry)))) ⌝ }
 {
     if registers::stays(first) {
         return fill_codes(m, out);
+    }
+    if registers::is_picture_run(first, out.len()) {
+        return fill_picture(m, (first - KBDCODE0) as u8, out);
     }
     fill_bytes(m, first, out)
 }

@@ -22,6 +22,7 @@ use borrow.Author.Tests.{lt-ltb}
 use lib.ListN.{length, getD, take, drop, replicate, length-append, length-drop, length-replicate}
 use lib.ListN.{take-append-drop, drop-of-length-le, List·getD-eq-default}
 use lib.Seq.{length-take-le, drop-cons}
+use Rattle.words.proofs.Bits.{one-shifted as shifted}
 use Rattle.bits.specs.Bits.{below, bitsOf, spelled, front, value, number, bitsFrom}
 use Rattle.bits.proofs.Laws.{bits-length, bits-low-only, number-bits, number-below, front-length, front-filled, front-parts, number-there}
 use Rattle.bits.proofs.Laid.{spelled-rest, from-more}
@@ -123,10 +124,7 @@ three-there bytes at x y z f g h =
 
 -- a number of w bits by shifts
 pub one-shifted : (w : ℕ) → w ≤ 13 → 1 * 2 ^ w % 4294967296 ≡ 2 ^ w
-one-shifted w h =
-    let l : 2 ^ w ≤ 2 ^ 13 = pow-le-pow-right (omega arith) h in
-    let e : 1 * 2 ^ w ≡ 2 ^ w = omega arith in
-    rw e (mod-eq-of-lt (omega arith))
+one-shifted w h = shifted w 32 (omega arith)
 
 pub window-fits : (v w : ℕ) → w ≤ 13 → v % (1 * 2 ^ w % 4294967296) < 65536
 window-fits v w h =

@@ -17,7 +17,8 @@ use mathlib.Core.Bool.{Bool, true, false, not, _||_}
 use mathlib.Core.List.{[], _∷_}
 use lib.Dec.{eqb}
 use Rattle.words.specs.Words.{_if_, _else_, bit, without}
-use Rattle.words.proofs.Bits.{binary, binary-bit}
+use Rattle.words.specs.Bits.{binary}
+use Rattle.words.proofs.Bits.{binary-bit}
 use Rattle.state.specs.declared.Module.{Module}
 use Rattle.state.specs.Queue.{waits}
 use Rattle.flags.specs.Flags.{weigh, ris, mis, line}

@@ -1,6 +1,8 @@
 // The registers: which stands at an address, what may be read and written, and the addresses of an access.
+ghost use Prim.Native.Nat.{_+_};
 ghost use mathlib.Core.Path.{_≡_};
-ghost use lib.Dec.{eqb};
+ghost use mathlib.Core.Bool.{_&&_};
+ghost use lib.Dec.{leb, eqb};
 ghost use Rattle.registers.specs.Registers.{registerAt, canRead, canWrite, allowed};
 ghost use Rattle.registers.specs.Runs.{next, runAllowed};
 
@@ -106,6 +108,25 @@ pub fn next_address(address: u16) -> u16
         return address;
     }
     address + 1
+}
+
+// The first of the picture's four registers.
+pub const KBDCODE0: u16 = 0x0B;
+
+// Do so many bytes from this address on all lie in the picture's four registers?
+pub fn is_picture_run(first: u16, count: usize) -> bool
+    ensures { λ r. ⌜ r ≡ (leb 0x0B first && leb (first + count) 0x0F) ⌝ }
+{
+    if first < KBDCODE0 {
+        return false;
+    }
+    if KBDCODE0 + 4 < first {
+        return false;
+    }
+    if ((KBDCODE0 + 4 - first) as usize) < count {
+        return false;
+    }
+    true
 }
 
 // May every address of a run be accessed so?

@@ -6,7 +6,7 @@ use lib.ListN.{length, length-take, length-drop, length-set}
 use borrow.Author.Needs.{needs}
 use Rattle.state.specs.declared.Module.{Module}
 use Rattle.access.specs.Lent.{lent}
-use Rattle.access.proofs.Laws.{read-end, back-length, read-more}
+use Rattle.access.proofs.Laws.{read-end, read-last, back-length, read-more}
 use borrow.Fn.Kinds.{In}
 use borrow.Fn.PlainCycle.{Measures, is, falls, and}
 use Rattle.access.proofs.fill_from.Reads as fill-from
@@ -57,6 +57,16 @@ fill-from-read-byte-requires t c κs = search needs
 fill-from-slice-write-out : (t : ℕ) → fill-from-lts.Need-slice-write-out (claims t) (fill-from-at t) fill-from.Post
 fill-from-slice-write-out t c = search needs
 
+fill-from-same-length : (t : ℕ) → fill-from-lts.Need-same-length (claims t) (fill-from-at t) fill-from.Post
+fill-from-same-length t c = search needs
+
+fill-from-returns-2 : (t : ℕ) → fill-from-lts.Need-returns-2 (claims t) (fill-from-at t) fill-from.Post
+fill-from-returns-2 t c =
+    let s = c .before .before .before .before .before .before .before .before .before in
+    let g = c .before .read-byte in
+    let one : length (s .args .out .now) < 2 = rw (length-set (s .args .out .now) 0 (g .result)) at (c .if2 .taken) in
+    λ m. read-last (entry t s m) (s .args .first) (s .args .out .now) _ _ (g .result) (c .before .before .before .before .before .before .before .if1 .left) one (c .before .before .register-at .ensures) (g .ensures m)
+
 fill-from-next-address-requires : (t : ℕ) → fill-from-lts.Need-next-address-requires (claims t) (fill-from-at t) fill-from.Post
 fill-from-next-address-requires t c κs = search needs
 
@@ -71,19 +81,19 @@ fill-from-part-fill-from-end t c = simp length-set (omega arith)
 
 fill-from-fill-from-requires : (t : ℕ) → fill-from-lts.Need-fill-from-requires (claims t) (fill-from-at t) fill-from.Post
 fill-from-fill-from-requires t c κs =
-    let s = c .before .before .before .before .before .before .before .before .before .before .before .before .before .before in
+    let s = c .before .before .before .before .before .before .before .before .before .before .before .before .before .before .before in
     (simp (length-take, length-drop, length-set) (omega (arith, s .pre .0)), s .pre .1)
 
-fill-from-same-length : (t : ℕ) → fill-from-lts.Need-same-length (claims t) (fill-from-at t) fill-from.Post
-fill-from-same-length t c =
+fill-from-same-length-2 : (t : ℕ) → fill-from-lts.Need-same-length-2 (claims t) (fill-from-at t) fill-from.Post
+fill-from-same-length-2 t c =
     let f = c .before .before .fill-from in
-    back-length (c .before .before .before .before .before .before .before .before .before .before .before .before .before .before .before .before .before .args .out .now) _ (f .last .1 .1 .1 .1 .1 .1 .1 .0) (f .kept .1 .1 .1 .1 .1 .1 .1 .0)
+    back-length (c .before .before .before .before .before .before .before .before .before .before .before .before .before .before .before .before .before .before .args .out .now) _ (f .last .1 .1 .1 .1 .1 .1 .1 .0) (f .kept .1 .1 .1 .1 .1 .1 .1 .0)
 
-fill-from-returns-2 : (t : ℕ) → fill-from-lts.Need-returns-2 (claims t) (fill-from-at t) fill-from.Post
-fill-from-returns-2 t c =
-    let s = c .before .before .before .before .before .before .before .before .before .before .before .before .before .before .before .before .before in
-    let g = c .before .before .before .before .before .before .before .before .before .read-byte in
-    λ m. read-more (entry t s m) (s .args .first) (s .args .out .now) _ _ _ (g .result) _ _ (c .before .before .before .before .before .before .before .before .before .before .before .before .before .before .before .if1 .left) (c .before .before .before .before .before .before .before .before .before .before .register-at .ensures) (g .ensures m) (c .before .before .before .before .before .before .before .before .next-address .ensures) (c .before .before .fill-from .ensures m)
+fill-from-returns-3 : (t : ℕ) → fill-from-lts.Need-returns-3 (claims t) (fill-from-at t) fill-from.Post
+fill-from-returns-3 t c =
+    let s = c .before .before .before .before .before .before .before .before .before .before .before .before .before .before .before .before .before .before in
+    let g = c .before .before .before .before .before .before .before .before .before .before .read-byte in
+    λ m. read-more (entry t s m) (s .args .first) (s .args .out .now) _ _ _ (g .result) _ _ (c .before .before .before .before .before .before .before .before .before .before .before .before .before .before .before .before .if1 .left) (c .before .before .before .before .before .before .before .before .before .before .before .register-at .ensures) (g .ensures m) (c .before .before .before .before .before .before .before .before .next-address .ensures) (c .before .before .fill-from .ensures m)
 
 pub +fill-from-spec : {M : Type 1} → statement M
 +fill-from-spec = close μ-fill-from λ t. fill-from-lts.spec (claims t)
@@ -93,10 +103,12 @@ pub +fill-from-spec : {M : Type 1} → statement M
     (fill-from-register-at-requires t)
     (fill-from-read-byte-requires t)
     (fill-from-slice-write-out t)
+    (fill-from-same-length t)
+    (fill-from-returns-2 t)
     (fill-from-next-address-requires t)
     (fill-from-sub-fill-from t)
     (fill-from-part-fill-from-start t)
     (fill-from-part-fill-from-end t)
     (fill-from-fill-from-requires t)
-    (fill-from-same-length t)
-    (fill-from-returns-2 t)
+    (fill-from-same-length-2 t)
+    (fill-from-returns-3 t)

@@ -1,8 +1,11 @@
 -- `access::fill` meets its contract: by the address.
 -- Assumes nothing.
-use mathlib.Core.Path.{sym, _∙_}
+use Prim.Native.Nat.{_+_, _-_}
+use native.Mathlib.Omega.{arith}
+use mathlib.Core.Path.{_≡_, sym, _∙_}
 use borrow.Author.Tests.{eqb-true}
 use lib.ListN.{length}
+use Rattle.registers.proofs.Laws.{picture-from, picture-to}
 use Rattle.access.proofs.Laws.{read-at}
 use borrow.Author.Needs.{needs}
 use Rattle.access.proofs.fill.Statement.{statement}
@@ -24,16 +27,64 @@ returns c =
     let there = eqb-true (a .first) 0x10 (sym (asked .before .stays .ensures) ∙ asked .if1 .taken) in
     read-at (a .m) _ _ (a .first) 0x10 (length (a .out .now)) there (c .before .before .fill-codes .ensures)
 
-fill-bytes-requires : tie.Need-fill-bytes-requires
-fill-bytes-requires c κs = search needs
+is-picture-run-requires : tie.Need-is-picture-run-requires
+is-picture-run-requires c κs = search needs
+
+sub-fill-picture : tie.Need-sub-fill-picture
+sub-fill-picture c =
+    let a = c .before .before .before .before .before .args in
+    let within = sym (c .before .is-picture-run .ensures) ∙ c .if2 .taken in
+    picture-from (a .first) (length (a .out .now)) within
+
+cast-fill-picture : tie.Need-cast-fill-picture
+cast-fill-picture c =
+    let a = c .before .before .before .before .before .args in
+    let within = sym (c .before .is-picture-run .ensures) ∙ c .if2 .taken in
+    let to = picture-to (a .first) (length (a .out .now)) within in
+    record { fits = omega arith }
+
+fill-picture-requires : tie.Need-fill-picture-requires
+fill-picture-requires c κs =
+    let a = c .before .before .before .before .before .before .args in
+    let within = sym (c .before .before .is-picture-run .ensures) ∙ c .before .if2 .taken in
+    let from = picture-from (a .first) (length (a .out .now)) within in
+    let to = picture-to (a .first) (length (a .out .now)) within in
+    omega arith
 
 same-length-2 : tie.Need-same-length-2
 same-length-2 c = search needs
 
 returns-2 : tie.Need-returns-2
-returns-2 c = search needs
+returns-2 c =
+    let asked = c .before .before .before .before in
+    let a = asked .before .before .before .before .before .args in
+    let from = picture-from (a .first) (length (a .out .now)) (sym (asked .before .is-picture-run .ensures) ∙ asked .if2 .taken) in
+    let there : a .first ≡ 0x0B + (a .first - 0x0B) = omega arith in
+    read-at (a .m) _ _ (a .first) (0x0B + (a .first - 0x0B)) (length (a .out .now)) there (c .before .before .fill-picture .ensures)
+
+fill-bytes-requires : tie.Need-fill-bytes-requires
+fill-bytes-requires c κs = search needs
+
+same-length-3 : tie.Need-same-length-3
+same-length-3 c = search needs
+
+returns-3 : tie.Need-returns-3
+returns-3 c = search needs
 
 pub fill-spec : {M : Type 1} → statement M
 fill-spec =
     tie.close
-    (tie.spec stays-requires fill-codes-requires same-length returns fill-bytes-requires same-length-2 returns-2)
+    (tie.spec
+    stays-requires
+    fill-codes-requires
+    same-length
+    returns
+    is-picture-run-requires
+    sub-fill-picture
+    cast-fill-picture
+    fill-picture-requires
+    same-length-2
+    returns-2
+    fill-bytes-requires
+    same-length-3
+    returns-3)

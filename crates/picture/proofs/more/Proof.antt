@@ -1,32 +1,35 @@
--- `picture::more` meets its contract. The loop's invariant: whether a key from the first on is held is whether one from k on is.
+-- `picture::more` meets its contract. The loop's invariant: whether a key of the rows from the first on is held is whether one is from this row on.
 -- Assumes nothing.
 use mathlib.Core.Path.{_≡_, refl, sym, _∙_}
 use Prim.Native.Nat.{_-_}
+use lib.ListN.{length, drop}
 use borrow.Author.Needs.{needs}
 use Rattle.picture.specs.Picture.{more}
-use Rattle.picture.proofs.Laws.{codesFrom, more-end, more-yes, more-no}
+use Rattle.picture.specs.Masks.{byMasks}
+use Rattle.picture.proofs.Rows.{more-here, more-later, more-end}
 use Rattle.picture.proofs.more.Statement.{statement}
 use Rattle.picture.proofs.more.Tie as tie
 
 abbrev Inv-loop : tie.InvT-loop
-Inv-loop table from k₀ k = more (codesFrom from table) ≡ more (codesFrom k table)
+Inv-loop rows from row₀ row = more (byMasks from (drop from rows)) ≡ more (byMasks row (drop row rows))
 
 abbrev μ-loop : tie.MeasureT-loop
-μ-loop table from k₀ k = 104 - k
+μ-loop rows from row₀ row = length rows - row
 
 loop-holds : tie.Need-loop-holds Inv-loop μ-loop
 loop-holds c = refl
 
-shared-slice-read-if1 : tie.Need-shared-slice-read-if1 Inv-loop μ-loop
-shared-slice-read-if1 c = search needs
+mask-at-requires : tie.Need-mask-at-requires Inv-loop μ-loop
+mask-at-requires c κs = search needs
 
 returns : tie.Need-returns Inv-loop μ-loop
 returns c =
     let l = c .before .before .before .loop in
-    (sym (l .inv ∙ more-yes (c .before .before .before .before .args .table .now) (search needs) (l .k) (c .before .before .loop-test .taken) (c .if1 .taken)), search needs)
+    let m = c .before .mask-at in
+    (sym (l .inv ∙ more-here (c .before .before .before .before .before .args .rows .now) (l .row) (m .result) (m .ensures) (c .if1 .taken) (search needs)), search needs)
 
-add-k : tie.Need-add-k Inv-loop μ-loop
-add-k c = search needs
+add-row : tie.Need-add-row Inv-loop μ-loop
+add-row c = search needs
 
 loop-less : tie.Need-loop-less Inv-loop μ-loop
 loop-less c = search needs
@@ -34,12 +37,13 @@ loop-less c = search needs
 loop-again : tie.Need-loop-again Inv-loop μ-loop
 loop-again c =
     let l = c .before .before .before .loop in
-    l .inv ∙ more-no (c .before .before .before .before .args .table .now) (search needs) (l .k) (c .before .before .loop-test .taken) (c .if1 .left)
+    let m = c .before .mask-at in
+    l .inv ∙ more-later (c .before .before .before .before .before .args .rows .now) (l .row) (m .result) (m .ensures) (search needs)
 
 returns-2 : tie.Need-returns-2 Inv-loop μ-loop
 returns-2 c =
     let l = c .before .loop in
-    (sym (l .inv ∙ more-end (c .before .before .args .table .now) (search needs) (l .k) (c .loop-test .left)), search needs)
+    (sym (l .inv ∙ more-end (c .before .before .before .args .rows .now) (l .row) (search needs)), search needs)
 
 pub more-spec : {M : Type 1} → statement M
 more-spec =
@@ -48,9 +52,9 @@ more-spec =
     Inv-loop
     μ-loop
     loop-holds
-    shared-slice-read-if1
+    mask-at-requires
     returns
-    add-k
+    add-row
     loop-less
     loop-again
     returns-2)
