@@ -17,6 +17,9 @@ static struct panel full;    /* 15 codes wait, five keys held, every flag of a c
 static struct panel none;    /* the same, no key held */
 static struct panel one;     /* the same, one key held */
 static struct panel all;     /* the same, every key held */
+static struct panel watched; /* as small, both edges of every plain pin wanted, and a sample taken: 0x2AAAA */
+static struct panel deaf;    /* the same, but every pin senses levels: none makes an edge */
+static struct panel lit;     /* as small, every pin an output and enabled, some by an open drain */
 static struct panel unsound; /* as full, failing the last test of soundness: all four marks */
 
 /* A calm look: the keys that are held stay closed, a special function key among them. */
@@ -66,6 +69,9 @@ static uint64_t ends[CODES];
 #define BLOCKS(name, start, looks, calls, count, number) {name, BLOCK, &(start), (const uint16_t(*)[8])(looks), calls, 0, {0, 0}, count, 0, number}
 #define READS(name, start, first, count, number) {name, READ, &(start), 0, 1, first, {0, 0}, count, 0, number}
 #define WRITES(name, start, first, byte, other, count, number) {name, WRITE, &(start), 0, 1, first, {byte, other}, count, 0, number}
+#define WRITES_LIST(name, start, first, count, number, ...) {name, WRITE, &(start), 0, 1, first, {__VA_ARGS__}, count, 0, number}
+#define SAMPLES(name, start, sample, number) {name, SAMPLE, &(start), 0, 1, 0, {0, 0}, 0, sample, number}
+#define DRIVES(name, start, number) {name, DRIVE, &(start), 0, 1, 0, {0, 0}, 0, 0, number}
 #define ASKS(name, start, row, col, number) {name, HELD, &(start), 0, 1, row, {col, 0}, 0, 0, number}
 #define LINE(name, start, number) {name, INTERRUPT, &(start), 0, 1, 0, {0, 0}, 0, 0, number}
 #define CARRIES(name, call, calls, count, room, number) {name, call, &full, 0, calls, 0, {0, 0}, count, room, number}
@@ -93,14 +99,26 @@ const struct measured cases[] = {
     READS("read: picture, 5 held", full, PANEL_KBDCODE0, 4, 0),
     READS("read: picture, 104 held", all, PANEL_KBDCODE0, 4, 0),
     READS("read: KBDRIS, KBDMIS", full, PANEL_KBDRIS, 2, 0),
+    READS("read: IRQST", full, PANEL_IRQST, 1, 0),
+    READS("read: GPIODATA0", watched, PANEL_GPIODATA0, 1, 0),
+    READS("read: C6 to D4", full, PANEL_GPIODIR0, 15, 0),
+    READS("read: D6 to DB", watched, PANEL_GPIORIS0, 6, 0),
     ASKS("question: held", full, 7, 12, 0),
     LINE("question: interrupt", full, 0),
+    LINE("question: interrupt, calm", calm, 0),
+    DRIVES("question: drive", lit, 0),
+    SAMPLES("pins: nothing changed", watched, 0x2AAAA, 0),
+    SAMPLES("pins: all changed, no edge", deaf, 0x55555, 0),
+    SAMPLES("pins: 15 edges", watched, 0x55555, 0),
     WRITES("write: KBDBOUNCE", full, PANEL_KBDBOUNCE, 0x05, 0, 1, 0),
     WRITES("write: KBDSIZE", full, PANEL_KBDSIZE, 0x8C, 0, 1, 0),
     WRITES("write: KBDBOUNCE, KBDSIZE", full, PANEL_KBDBOUNCE, 0x05, 0x8C, 2, 0),
     WRITES("write: KBDIC", full, PANEL_KBDIC, 0x03, 0, 1, 0),
     WRITES("write: KBDMSK", full, PANEL_KBDMSK, 0x0A, 0, 1, 0),
     WRITES("write: RSTINTCLR", full, PANEL_RSTINTCLR, 0x01, 0, 1, 0),
+    WRITES("write: GPIODATA0", full, PANEL_GPIODATA0, 0xA5, 0, 1, 0),
+    WRITES("write: GPIOIC0", full, PANEL_GPIOIC0, 0xFF, 0, 1, 0),
+    WRITES_LIST("21 registers: C0 to D4", full, PANEL_GPIODATA0, 21, 0, 1, 2, 3, 4, 5, 6, 7, 8, 9, 10, 11, 12, 13, 14, 15, 16, 17, 18, 19, 20, 21),
     {"reset", RESET, &full, 0, 1, 0, {0, 0}, 0, 0, 0},
     CARRIES("pack: 64 looks", PACK, 1, LISTED, ROOM, 0),
     CARRIES("pack next: a look", PACK_NEXT, LISTED, 0, ROOM, 0),
@@ -122,6 +140,7 @@ const struct measured cases[] = {
     READS("declined 4: read", full, PANEL_EVTCODE, 33, 4),
     WRITES("declined 4: write", full, PANEL_KBDBOUNCE, 0, 0, 33, 4),
     READS("declined 5: read", full, PANEL_KBDCODE0, 5, 5),
+    READS("declined 5: C6 to D5", full, PANEL_GPIODIR0, 16, 5),
     WRITES("declined 5: write", full, PANEL_KBDSIZE, 0x8C, 0, 2, 5),
     WRITES("declined 6: write", full, PANEL_KBDBOUNCE, 0x05, 0x1C, 2, 6),
     ASKS("declined 7: held", full, 8, 0, 7),
@@ -131,11 +150,14 @@ const struct measured cases[] = {
     READS("declined 8: read", unsound, PANEL_EVTCODE, 15, 8),
     ASKS("declined 8: held", unsound, 7, 12, 8),
     LINE("declined 8: interrupt", unsound, 8),
+    SAMPLES("declined 8: pins", unsound, 0x55555, 8),
+    DRIVES("declined 8: drive", unsound, 8),
     CARRIES("declined 21: pack", PACK, 1, LISTED, 99, 21),
     CARRIES("declined 21: pack next", PACK_NEXT, 1, 0, 13, 21),
     CUTS("declined 22: group", GROUP, TRIM, SHORT, SHORT + 1, 22),
     CUTS("declined 23: groups", GROUPS, PANEL_NO_CODE, SHORT, SHORT, 23),
     CUTS("declined 25: group", GROUP, TRIM, SHORT, MIDDLE + 1, 25),
+    SAMPLES("declined 26: pins", watched, 0xD5555, 26),
 };
 
 const unsigned case_count = sizeof cases / sizeof cases[0];
@@ -209,6 +231,26 @@ static struct panel filled(const uint16_t *samples)
     return panel;
 }
 
+/* As small, with these bytes in three registers of the pins from an address on, and a sample taken. */
+static struct panel with_pins(struct panel panel, uint8_t first, uint8_t byte)
+{
+    uint8_t bytes[3];
+    memset(bytes, byte, sizeof bytes);
+    gave(panel_write(&panel, first, bytes, sizeof bytes));
+    gave(panel_pins(&panel, 0x2AAAA));
+    return panel;
+}
+
+/* Every pin of small an output: data and mask, direction, open drain. */
+static struct panel outputs(void)
+{
+    static const uint8_t data[] = {0xA5, 0xFF, 0x5A, 0xFF, 0xA5, 0xFF, 0xFF, 0xFF, 0xFF}, drain[] = {0x3C, 0x66, 0x3C, 0x66, 0x3C, 0x66};
+    struct panel panel = small;
+    gave(panel_write(&panel, PANEL_GPIODATA0, data, sizeof data));
+    gave(panel_write(&panel, PANEL_GPIOOME0, drain, sizeof drain));
+    return panel;
+}
+
 /* The modules that the cases begin with. */
 static void make_modules(void)
 {
@@ -228,6 +270,9 @@ static void make_modules(void)
     /* the keys of the matrix first: a closed special function key hides them */
     all = filled(matrix);
     gave(panel_look(&all, every, 8));
+    watched = with_pins(small, PANEL_GPIOIBE0, 0xFF);
+    deaf = with_pins(watched, PANEL_GPIOIS0, 0xFF);
+    lit = outputs();
     unsound = full;
     memset(unsound.seen, 1, sizeof unsound.seen);
 }
@@ -261,11 +306,12 @@ static void make_codes(void)
     }
 }
 
-/* The module, buffer, answer, lengths, call, place and what is told of groups that the calls are made on. */
+/* The module, buffer, answer, lengths, pins driven, call, place and what is told of groups that the calls are made on. */
 static struct panel panel;
 static uint8_t buffer[ROOM];
 static bool yes;
 static uint64_t length, done;
+static uint32_t driven, level;
 static struct panel_call call;
 static struct panel_place place;
 static struct panel_standing standing;
@@ -287,6 +333,10 @@ static uint8_t make(const struct face *face, const struct measured *measured, un
         return face->held(&panel, panel_row(measured->first), panel_col(measured->bytes[0]), &yes);
     case INTERRUPT:
         return face->interrupt(&panel, &yes);
+    case SAMPLE:
+        return face->pins(&panel, (uint32_t)measured->room);
+    case DRIVE:
+        return face->drive(&panel, &driven, &level);
     case PACK:
         return face->pack(session + 1, measured->count, buffer, measured->room, &length);
     case PACK_NEXT:

@@ -4,7 +4,7 @@
 
 #include "face.h"
 
-enum call { RESET, LOOK, BLOCK, WRITE, READ, HELD, INTERRUPT, PACK, PACK_NEXT, UNPACK, PLAY, GROUP, STRETCH, GROUPS };
+enum call { RESET, LOOK, BLOCK, WRITE, READ, HELD, INTERRUPT, SAMPLE, DRIVE, PACK, PACK_NEXT, UNPACK, PLAY, GROUP, STRETCH, GROUPS };
 
 struct measured {
     const char *name;
@@ -15,7 +15,7 @@ struct measured {
     uint8_t first;               /* WRITE, READ: the first address; HELD: the row; GROUP, STRETCH, GROUPS: the trim key's code */
     uint8_t bytes[33];           /* WRITE: the bytes; HELD: the column */
     size_t count;                /* LOOK, BLOCK, WRITE, READ: how many samples or bytes; PACK: calls; UNPACK, PLAY: bytes less than the list has; GROUP, STRETCH, GROUPS: codes */
-    size_t room;                 /* PACK, PACK_NEXT: bytes of the buffer; GROUP, STRETCH: the place; GROUPS: how many ends there is room for */
+    size_t room;                 /* SAMPLE: the pins' sample; PACK, PACK_NEXT: bytes of the buffer; GROUP, STRETCH: the place; GROUPS: how many ends there is room for */
     uint8_t number;              /* the number that each call gives; STRETCH: how long it is */
 };
 

@@ -1,4 +1,4 @@
-/* The fourteen calls over pointers, as a table, so that the archive and the plain C can be run in turn. */
+/* The sixteen calls over pointers, as a table, so that the archive and the plain C can be run in turn. */
 #ifndef FACE_H
 #define FACE_H
 
@@ -13,6 +13,8 @@ struct face {
     uint8_t (*read)(struct panel *panel, uint8_t first, uint8_t *buffer, uint64_t count);
     uint8_t (*held)(const struct panel *panel, struct panel_row row, struct panel_col col, bool *yes);
     uint8_t (*interrupt)(const struct panel *panel, bool *yes);
+    uint8_t (*pins)(struct panel *panel, uint32_t sample);
+    uint8_t (*drive)(const struct panel *panel, uint32_t *driven, uint32_t *level);
     uint8_t (*pack)(const struct panel_call *calls, uint64_t count, uint8_t *out, uint64_t room, uint64_t *length);
     uint8_t (*pack_next)(const struct panel_call *call, uint8_t *out, uint64_t room, struct panel_place *place);
     uint8_t (*unpack)(const uint8_t *bytes, uint64_t count, struct panel_place *place, struct panel_call *call, bool *end);

@@ -33,7 +33,7 @@ static const uint8_t *proved_stretch(uint8_t trim, const uint8_t *codes, uint64_
 }
 
 /* The others are the archives' own. */
-const struct face proved = {"proved", proved_reset, panel_look, panel_looks, panel_write, panel_read, panel_held, panel_interrupt,
+const struct face proved = {"proved", proved_reset, panel_look, panel_looks, panel_write, panel_read, panel_held, panel_interrupt, panel_pins, panel_drive,
                             proved_pack, proved_pack_next, proved_unpack, proved_play, panel_group_value, proved_stretch, panel_groups_value};
 
 /* Calls that do nothing: the cost of a turn without them. */
@@ -79,6 +79,18 @@ static uint8_t idle_interrupt(const struct panel *panel, bool *yes)
     return PANEL_DONE;
 }
 
+static uint8_t idle_pins(struct panel *panel, uint32_t sample)
+{
+    (void)panel, (void)sample;
+    return PANEL_DONE;
+}
+
+static uint8_t idle_drive(const struct panel *panel, uint32_t *driven, uint32_t *level)
+{
+    (void)panel, (void)driven, (void)level;
+    return PANEL_DONE;
+}
+
 static uint8_t idle_pack(const struct panel_call *calls, uint64_t count, uint8_t *out, uint64_t room, uint64_t *length)
 {
     (void)calls, (void)count, (void)out, (void)room, (void)length;
@@ -121,5 +133,5 @@ static struct panel_handed *idle_groups(struct panel_handed *made, uint8_t trim,
     return made;
 }
 
-const struct face idle = {"idle", idle_reset, idle_look, idle_looks, idle_write, idle_read, idle_held, idle_interrupt,
+const struct face idle = {"idle", idle_reset, idle_look, idle_looks, idle_write, idle_read, idle_held, idle_interrupt, idle_pins, idle_drive,
                           idle_pack, idle_pack_next, idle_unpack, idle_play, idle_group, idle_stretch, idle_groups};

@@ -62,8 +62,8 @@ static struct panel_call some_call(void)
     struct panel_call call;
     unsigned i, high = once_in(40);
     call.kind = (uint16_t)(below(4) + (once_in(8) ? 4 * below(16384) : 0));
-    call.first = (uint16_t)(once_in(8) ? chance() : below(256));
-    call.count = some_count(call.kind % 4 == PANEL_LOOK ? 8 : 1 + below(32));
+    call.first = (uint16_t)(once_in(8) ? chance() : once_in(3) ? PANEL_GPIODATA0 + below(38) : below(256));
+    call.count = some_count(call.kind % 4 == PANEL_LOOK ? 8 : 1 + below(once_in(2) ? 5 : 32));
     for (i = 0; i < 32; i++)
         call.values[i] = (uint16_t)(chance() & (call.kind % 4 == PANEL_LOOK && !(high && once_in(8)) ? 0x1FFF : 0xFFFF));
     return call;

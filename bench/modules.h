@@ -57,8 +57,8 @@ static inline void some_marks(struct panel *panel)
         panel->seen[below(4)] = below(2);
 }
 
-/* A sound module. */
-static inline struct panel some_panel(void)
+/* A sound module, its pins as after reset. */
+static inline struct panel some_keypad(void)
 {
     struct panel panel;
     panel_reset(&panel);
@@ -72,6 +72,27 @@ static inline struct panel some_panel(void)
     panel.relint = below(2);
     panel.porirq = below(2);
     some_marks(&panel);
+    return panel;
+}
+
+/* Pins: every value is sound. Mostly a sample came, half of the pins or few have an edge, and registers hold few bits, many or all. */
+static inline void some_pins(struct panel_pins *pins)
+{
+    unsigned i, few = below(2);
+    for (i = 0; i < sizeof pins->kept; i++)
+        pins->kept[i] = (uint8_t)(once_in(4) ? 255 * below(2) : chance());
+    for (i = 0; i < PANEL_PINS; i++) {
+        pins->edge[i] = below(few ? 12 : 2) == 0;
+        pins->level[i] = below(2);
+    }
+    pins->sampled = !once_in(6);
+}
+
+/* A sound module. */
+static inline struct panel some_panel(void)
+{
+    struct panel panel = some_keypad();
+    some_pins(&panel.pins);
     return panel;
 }
 

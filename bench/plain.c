@@ -11,6 +11,12 @@ void *memmove(void *to, const void *from, size_t count);
 /* The column of the special function key. */
 #define SF 12
 
+/* All pins, a bit each. */
+#define ALL_PINS ((1u << PANEL_PINS) - 1)
+
+/* Where the first of three registers stands in `kept`: next to each other, but for data and mask, mode and its select, which alternate. */
+enum { IOPC = 0, DATA = 6, MASK = 7, DIR = 12, IS = 15, IBE = 18, IEV = 21, IE = 24, OME = 27, OMS = 28 };
+
 /* KBDSIZE is 16 x rows + columns. */
 static unsigned rows_of(uint8_t size)
 {
@@ -91,6 +97,10 @@ static void restart(struct panel *panel, uint8_t size)
     memset(panel->seen, 0, sizeof panel->seen);
 }
 
+/* The pins after reset. */
+static const struct panel_pins pins_after_reset = {
+    {0xAA, 0xAA, 0x55, 0x55, 0x15, 0x5A, 0, 0, 0, 0, 0, 0, 0, 0, 0x08, 0, 0, 0, 0, 0, 0, 0xFF, 0xFF, 0xFF, 0, 0, 0, 0, 0, 0, 0, 0x08, 0}, {false}, {false}, false};
+
 /* Reset. */
 static uint8_t plain_reset(struct panel *panel)
 {
@@ -98,6 +108,7 @@ static uint8_t plain_reset(struct panel *panel)
     panel->bounce = 0x03;
     panel->mask = 0x03;
     panel->porirq = true;
+    panel->pins = pins_after_reset;
     return PANEL_DONE;
 }
 
@@ -201,6 +212,93 @@ static uint8_t plain_looks(struct panel *panel, const uint16_t *samples, uint64_
     return PANEL_DONE;
 }
 
+/* The pins that the keypad's size leaves free, a bit each. */
+static uint32_t free_pins(uint8_t size)
+{
+    uint32_t rows = (1u << rows_of(size)) - 1, cols = (1u << cols_of(size)) - 1;
+    return ALL_PINS & ~(rows | cols << 8);
+}
+
+/* What three registers say, a bit for each pin; they are next to each other. */
+static uint32_t three(const struct panel *panel, unsigned at)
+{
+    const uint8_t *kept = panel->pins.kept + at;
+    return (kept[0] | (uint32_t)kept[1] << 8 | (uint32_t)kept[2] << 16) & ALL_PINS;
+}
+
+/* The same, of three that alternate with others. */
+static uint32_t every_second(const struct panel *panel, unsigned at)
+{
+    const uint8_t *kept = panel->pins.kept + at;
+    return (kept[0] | (uint32_t)kept[2] << 8 | (uint32_t)kept[4] << 16) & ALL_PINS;
+}
+
+/* A sample of the pins. */
+static uint8_t plain_pins(struct panel *panel, uint32_t sample)
+{
+    struct panel_pins *pins = &panel->pins;
+    uint32_t may, both, rising;
+    unsigned i;
+    if (!sound(panel))
+        return PANEL_UNSOUND;
+    if (sample & ~ALL_PINS)
+        return PANEL_BAD_PINS;
+    may = pins->sampled ? free_pins(panel->size) & ~three(panel, DIR) & ~three(panel, IS) : 0;
+    both = three(panel, IBE);
+    rising = three(panel, IEV);
+    /* the edges that a pin may have, if its level is another now */
+    may &= both | ~(sample ^ rising);
+    for (i = 0; i < PANEL_PINS; i++) {
+        bool now = sample >> i & 1;
+        if (now != pins->level[i] && may >> i & 1)
+            pins->edge[i] = true;
+        pins->level[i] = now;
+    }
+    pins->sampled = true;
+    return PANEL_DONE;
+}
+
+/* Which pins are driven, and to which level? */
+static uint8_t plain_drive(const struct panel *panel, uint32_t *driven, uint32_t *level)
+{
+    uint32_t data;
+    *driven = *level = 0;
+    if (!sound(panel))
+        return PANEL_UNSOUND;
+    data = every_second(panel, DATA);
+    *driven = free_pins(panel->size) & three(panel, DIR) & every_second(panel, MASK) & ~(every_second(panel, OME) & (every_second(panel, OMS) ^ data));
+    *level = *driven & data;
+    return PANEL_DONE;
+}
+
+/* Is the address among these? */
+static bool within(unsigned address, unsigned first, unsigned last)
+{
+    return address >= first && address <= last;
+}
+
+/* May this register above those of the keypad be read? */
+static bool pins_readable(unsigned address)
+{
+    switch (address) {
+    case PANEL_IRQST:
+    case PANEL_GPIODATA0:
+    case PANEL_GPIODATA1:
+    case PANEL_GPIODATA2:
+        return true;
+    default:
+        return within(address, PANEL_IOPC0_LOW, PANEL_IOPC2_HIGH) || within(address, PANEL_GPIODIR0, PANEL_GPIOIE2)
+            || within(address, PANEL_GPIORIS0, PANEL_GPIOMIS2) || within(address, PANEL_GPIOOME0, PANEL_GPIOOMS2);
+    }
+}
+
+/* May it be written? */
+static bool pins_writable(unsigned address)
+{
+    return within(address, PANEL_IOPC0_LOW, PANEL_IOPC2_HIGH) || within(address, PANEL_GPIODATA0, PANEL_GPIOIE2)
+        || within(address, PANEL_GPIOIC0, PANEL_GPIOIC2) || within(address, PANEL_GPIOOME0, PANEL_GPIOOMS2);
+}
+
 /* May the register at this address be read? */
 static bool readable(unsigned address)
 {
@@ -217,7 +315,7 @@ static bool readable(unsigned address)
     case PANEL_EVTCODE:
         return true;
     default:
-        return false;
+        return pins_readable(address);
     }
 }
 
@@ -232,7 +330,7 @@ static bool writable(unsigned address)
     case PANEL_RSTINTCLR:
         return true;
     default:
-        return false;
+        return pins_writable(address);
     }
 }
 
@@ -286,6 +384,93 @@ static uint8_t ris(const struct panel *panel)
 static uint8_t mis(const struct panel *panel)
 {
     return (uint8_t)(ris(panel) & ~panel->mask);
+}
+
+/* Is some pin's edge pending and enabled? */
+static bool pins_pending(const struct panel *panel)
+{
+    uint32_t enabled = three(panel, IE);
+    unsigned i;
+    for (i = 0; i < PANEL_PINS; i++) {
+        if (panel->pins.edge[i] && enabled >> i & 1)
+            return true;
+    }
+    return false;
+}
+
+/* What IRQST reads. */
+static uint8_t irqst(const struct panel *panel)
+{
+    return (uint8_t)((panel->porirq ? PANEL_PORIRQ : 0) | (mis(panel) != 0 ? PANEL_KBDIRQ : 0) | (pins_pending(panel) ? PANEL_GPIOIRQ : 0));
+}
+
+/* Eight of the pins' bools as a byte, or the last three. */
+static uint8_t byte_of(const bool *bools, unsigned group)
+{
+    unsigned i, byte = 0;
+    for (i = 8 * group; i < 8 * group + 8 && i < PANEL_PINS; i++)
+        byte |= (unsigned)bools[i] << i % 8;
+    return (uint8_t)byte;
+}
+
+/* What GPIODATA reads: of an output its data, of an input its newest sample; 0 of a pin that is masked or used. */
+static uint8_t data_of(const struct panel *panel, unsigned group)
+{
+    const uint8_t *kept = panel->pins.kept;
+    uint8_t dir = kept[DIR + group], newest = panel->pins.sampled ? byte_of(panel->pins.level, group) : 0;
+    return (uint8_t)((dir & kept[DATA + 2 * group]) | (~dir & newest)) & kept[MASK + 2 * group] & (uint8_t)(free_pins(panel->size) >> 8 * group);
+}
+
+/* Where the register at an address stands in `kept`. */
+static uint8_t *kept_at(struct panel *panel, unsigned address)
+{
+    if (address <= PANEL_IOPC2_HIGH)
+        return &panel->pins.kept[IOPC + address - PANEL_IOPC0_LOW];
+    if (address <= PANEL_GPIOIE2)
+        return &panel->pins.kept[DATA + address - PANEL_GPIODATA0];
+    return &panel->pins.kept[OME + address - PANEL_GPIOOME0];
+}
+
+/* The byte that a read of a register above those of the keypad gives. */
+static uint8_t read_pins(struct panel *panel, unsigned address)
+{
+    switch (address) {
+    case PANEL_IRQST:
+        return irqst(panel);
+    case PANEL_GPIODATA0:
+    case PANEL_GPIODATA1:
+    case PANEL_GPIODATA2:
+        return data_of(panel, (address - PANEL_GPIODATA0) / 2);
+    case PANEL_GPIORIS0:
+    case PANEL_GPIORIS1:
+    case PANEL_GPIORIS2:
+        return byte_of(panel->pins.edge, address - PANEL_GPIORIS0);
+    case PANEL_GPIOMIS0:
+    case PANEL_GPIOMIS1:
+    case PANEL_GPIOMIS2:
+        return byte_of(panel->pins.edge, address - PANEL_GPIOMIS0) & panel->pins.kept[IE + address - PANEL_GPIOMIS0];
+    default:
+        return *kept_at(panel, address);
+    }
+}
+
+/* GPIOIC: a 1 clears the pending edge. */
+static void clear_edges(struct panel *panel, unsigned group, uint8_t byte)
+{
+    unsigned i;
+    for (i = 8 * group; i < 8 * group + 8 && i < PANEL_PINS; i++) {
+        if (byte >> i % 8 & 1)
+            panel->pins.edge[i] = false;
+    }
+}
+
+/* What a byte written to such a register does. */
+static void write_pins(struct panel *panel, unsigned address, uint8_t byte)
+{
+    if (within(address, PANEL_GPIOIC0, PANEL_GPIOIC2))
+        clear_edges(panel, address - PANEL_GPIOIC0, byte);
+    else
+        *kept_at(panel, address) = byte;
 }
 
 /* The code of the held key number n, with 128 added when another follows. */
@@ -344,12 +529,17 @@ static uint8_t read_byte(struct panel *panel, unsigned address)
         return mis(panel);
     case PANEL_KBDMSK:
         return panel->mask;
-    case PANEL_EVTCODE:
-        return take(panel);
-    default:
+    case PANEL_KBDCODE0:
+    case PANEL_KBDCODE1:
+    case PANEL_KBDCODE2:
+    case PANEL_KBDCODE3:
         byte = picture(panel, address - PANEL_KBDCODE0);
         mark(panel, address - PANEL_KBDCODE0);
         return byte;
+    case PANEL_EVTCODE:
+        return take(panel);
+    default:
+        return read_pins(panel, address);
     }
 }
 
@@ -398,6 +588,9 @@ static void write_byte(struct panel *panel, unsigned address, uint8_t byte)
         if (byte & 1)
             panel->porirq = false;
         break;
+    default:
+        write_pins(panel, address, byte);
+        break;
     }
 }
 
@@ -435,7 +628,7 @@ static uint8_t plain_interrupt(const struct panel *panel, bool *yes)
     *yes = false;
     if (!sound(panel))
         return PANEL_UNSOUND;
-    *yes = panel->porirq || mis(panel) != 0;
+    *yes = panel->porirq || mis(panel) != 0 || pins_pending(panel);
     return PANEL_DONE;
 }
 
@@ -775,5 +968,5 @@ static struct panel_handed *plain_groups(struct panel_handed *made, uint8_t trim
 #define WORD(name) #name
 #define WORDS(name) WORD(name)
 
-const struct face PLAIN = {WORDS(PLAIN), plain_reset, plain_look, plain_looks, plain_write, plain_read, plain_held, plain_interrupt,
+const struct face PLAIN = {WORDS(PLAIN), plain_reset, plain_look, plain_looks, plain_write, plain_read, plain_held, plain_interrupt, plain_pins, plain_drive,
                            plain_pack, plain_pack_next, plain_unpack, plain_play, plain_group, plain_stretch, plain_groups};

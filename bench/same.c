@@ -1,6 +1,6 @@
 /*
  * Do the archive and the plain C give the same answers? Random calls on random modules, sound and unsound:
- * the number, every byte of the module, every byte of the buffer, the answer and a block's looks done are compared after each.
+ * the number, every byte of the module, every byte of the buffer, the answer, a block's looks done and the pins driven are compared after each.
  * What carries a session stands in lists.c, undo groups in groups.c.
  */
 #include "groups.h"
@@ -11,10 +11,10 @@ int printf(const char *format, ...);
 int memcmp(const void *a, const void *b, size_t count);
 void *memset(void *to, int byte, size_t count);
 
-enum { CALLS = 150000, ROOM = 320 };
+enum { CALLS = 200000, ROOM = 320 };
 
-enum call { RESET, LOOK, BLOCK, WRITE, READ, HELD, INTERRUPT };
-static const char *const names[] = {"reset", "look", "block", "write", "read", "held", "interrupt"};
+enum call { RESET, LOOK, BLOCK, WRITE, READ, HELD, INTERRUPT, SAMPLE, DRIVE };
+static const char *const names[] = {"reset", "look", "block", "write", "read", "held", "interrupt", "pins", "drive"};
 enum { KINDS = sizeof names / sizeof names[0] };
 
 /* What a call of each side is given and leaves. */
@@ -24,6 +24,8 @@ struct side {
     uint8_t buffer[ROOM];
     bool yes;
     uint64_t done;
+    uint32_t driven;
+    uint32_t level;
     uint8_t number;
 };
 
@@ -35,14 +37,18 @@ struct asked {
     uint8_t first;
     uint8_t row;
     uint8_t col;
+    uint32_t sample;
     size_t count;
 };
 
 /* How often each call gave each number. */
-static unsigned given[KINDS][10];
+static unsigned given[KINDS][PANEL_BAD_PINS + 1];
 
 /* Single looks that were done, those that hid a row of the size, and those that hid a key with a run of D or more, as a lowered D leaves it. */
 static unsigned looked, hid, lowered;
+
+/* Pin samples that were done, and those that made an edge; questions that found a pin driven; lines asserted by a pin alone. */
+static unsigned sampled, edged, drove, by_pin;
 
 /* A size, mostly one that is acceptable. */
 static uint8_t some_size(void)
@@ -90,11 +96,18 @@ static size_t some_count(size_t usual)
     return once_in(6) ? rare[below(16)] : usual;
 }
 
-/* An address, mostly that of a register. */
+/* An address, mostly that of a register of the keypad. */
 static uint8_t some_address(void)
 {
     static const uint8_t known[] = {0x02, 0x03, 0x06, 0x07, 0x08, 0x09, 0x0B, 0x0C, 0x0D, 0x0E, 0x10, 0x10, 0x84};
     return once_in(10) ? (uint8_t)chance() : known[below(13)];
+}
+
+/* An address of the pins or beside one: 0x91, 0xA9 to 0xB0, 0xBF to 0xE6. */
+static uint8_t some_pin_address(void)
+{
+    unsigned at = below(50);
+    return (uint8_t)(at < 2 ? PANEL_IRQST : at < 10 ? 0xA9 + at - 2 : 0xBF + at - 10);
 }
 
 /* A high bit in one of so many samples. */
@@ -137,14 +150,14 @@ static void some_block(struct asked *asked)
     asked->count = once_in(8) ? below(ROOM + 1) : 8 * looks;
 }
 
-/* An access: sizes, small numbers and any bytes, few at a time. */
+/* An access: sizes, small numbers and any bytes, few at a time; often to the pins, and then now and then many. */
 static void some_bytes(struct asked *asked)
 {
-    unsigned i;
+    unsigned i, pins = once_in(3);
     for (i = 0; i < ROOM; i++)
-        asked->bytes[i] = (uint8_t)(once_in(2) ? some_size() : once_in(2) ? chance() : below(5));
-    asked->first = some_address();
-    asked->count = some_count(asked->call == WRITE ? 1 + below(2) : 1 + below(5));
+        asked->bytes[i] = (uint8_t)(once_in(2) && !pins ? some_size() : once_in(2) ? chance() : below(5));
+    asked->first = pins ? some_pin_address() : some_address();
+    asked->count = some_count(pins ? 1 + below(once_in(2) ? 22 : 6) : asked->call == WRITE ? 1 + below(2) : 1 + below(5));
 }
 
 /* A write of KBDBOUNCE, of a small number. */
@@ -154,6 +167,15 @@ static void some_bounce(struct asked *asked)
     asked->first = PANEL_KBDBOUNCE;
     asked->bytes[0] = (uint8_t)below(4);
     asked->count = 1;
+}
+
+/* A sample of the pins: another one, or the newest with a few bits changed; now and then a bit above 18. */
+static void some_sample(struct asked *asked)
+{
+    asked->sample = once_in(3) ? chance() : asked->sample ^ (chance() & chance() & chance());
+    asked->sample &= 0x7FFFF;
+    if (once_in(10))
+        asked->sample |= 1u << (19 + below(13));
 }
 
 /* A row and a column, now and then none of the panel's. */
@@ -166,9 +188,9 @@ static void some_key(struct asked *asked)
 /* A random call. */
 static struct asked some_call(void)
 {
-    static const enum call calls[] = {LOOK, LOOK, LOOK, LOOK, BLOCK, WRITE, WRITE, READ, READ, READ, HELD, INTERRUPT};
+    static const enum call calls[] = {LOOK, LOOK, LOOK, LOOK, BLOCK, WRITE, WRITE, READ, READ, READ, HELD, INTERRUPT, SAMPLE, SAMPLE, SAMPLE, DRIVE};
     static struct asked asked;
-    asked.call = once_in(60) ? RESET : calls[below(12)];
+    asked.call = once_in(60) ? RESET : calls[below(16)];
     if (asked.call == LOOK)
         some_look(&asked);
     if (asked.call == BLOCK)
@@ -177,6 +199,8 @@ static struct asked some_call(void)
         some_bytes(&asked);
     if (asked.call == HELD)
         some_key(&asked);
+    if (asked.call == SAMPLE)
+        some_sample(&asked);
     if (direct && once_in(12))
         some_bounce(&asked);
     return asked;
@@ -207,21 +231,29 @@ static void make(struct side *side, const struct asked *asked)
     case INTERRUPT:
         side->number = side->face->interrupt(&side->panel, &side->yes);
         break;
+    case SAMPLE:
+        side->number = side->face->pins(&side->panel, asked->sample);
+        break;
+    case DRIVE:
+        side->number = side->face->drive(&side->panel, &side->driven, &side->level);
+        break;
     }
 }
 
-/* Did both give the same number, answer and looks done, and leave the same bytes? */
+/* Did both give the same number, answer, looks done and pins driven, and leave the same bytes? */
 static bool agree(const struct side *a, const struct side *b)
 {
-    if (a->number != b->number || a->yes != b->yes || a->done != b->done)
+    if (a->number != b->number || a->yes != b->yes || a->done != b->done || a->driven != b->driven || a->level != b->level)
         return false;
     return memcmp(&a->panel, &b->panel, sizeof a->panel) == 0 && memcmp(a->buffer, b->buffer, ROOM) == 0;
 }
 
-/* Before some calls both modules become another one, or are hurt alike; before each, where a block's looks are told holds anything. */
+/* Before some calls both modules become another one, or are hurt alike; before each, where looks done and pins driven are told holds anything. */
 static void disturb(struct side *a, struct side *b)
 {
     a->done = b->done = ~(uint64_t)chance();
+    a->driven = b->driven = chance();
+    a->level = b->level = chance();
     if (once_in(20))
         a->panel = some_panel();
     if (once_in(20))
@@ -230,7 +262,7 @@ static void disturb(struct side *a, struct side *b)
 }
 
 /* A look that was done: what it hid. */
-static void note(const struct panel *was, const uint16_t *samples)
+static void note_look(const struct panel *was, const uint16_t *samples)
 {
     unsigned row, col, keys = 0, late = 0;
     for (row = 0; row < PANEL_ROWS; row++) {
@@ -245,6 +277,18 @@ static void note(const struct panel *was, const uint16_t *samples)
     looked++;
     hid += keys > 0;
     lowered += late > 0;
+}
+
+/* A call on the pins that was done, and the line: what was met. */
+static void note_pins(const struct panel *was, const struct side *side, enum call call)
+{
+    struct panel quiet = side->panel;
+    bool yes = false;
+    sampled += call == SAMPLE;
+    edged += call == SAMPLE && memcmp(was->pins.edge, side->panel.pins.edge, sizeof was->pins.edge) != 0;
+    drove += call == DRIVE && side->driven != 0;
+    memset(quiet.pins.edge, 0, sizeof quiet.pins.edge);
+    by_pin += call == INTERRUPT && side->yes && side->face->interrupt(&quiet, &yes) == PANEL_DONE && !yes;
 }
 
 /* Many calls on both; false at the first difference. */
@@ -270,7 +314,9 @@ static bool compare(const struct face *one, const struct face *other)
         }
         given[asked.call][a.number]++;
         if (asked.call == LOOK && a.number == PANEL_DONE)
-            note(&was, asked.samples);
+            note_look(&was, asked.samples);
+        if (a.number == PANEL_DONE)
+            note_pins(&was, &a, asked.call);
     }
     return true;
 }
@@ -278,16 +324,16 @@ static bool compare(const struct face *one, const struct face *other)
 /* Says how often each number came; false if one that a call can give never did. */
 static bool all_given(void)
 {
-    static const char *const can[] = {"0", "0128", "0128", "034568", "03458", "078", "08"};
-    const char *digit;
-    unsigned call;
+    static const uint8_t can[KINDS][6] = {{0}, {0, 1, 2, 8}, {0, 1, 2, 8}, {0, 3, 4, 5, 6, 8}, {0, 3, 4, 5, 8}, {0, 7, 8}, {0, 8}, {0, 8, 26}, {0, 8}};
+    unsigned call, i;
     bool all = true;
     for (call = 0; call < KINDS; call++) {
         printf("  %s:", names[call]);
-        for (digit = can[call]; *digit; digit++) {
-            printf(" number %c %u times%s", *digit, given[call][*digit - '0'], digit[1] ? "," : "\n");
-            all = all && given[call][*digit - '0'] > 0;
+        for (i = 0; i < 6 && (i == 0 || can[call][i] > 0); i++) {
+            printf("%s number %u %u times", i > 0 ? "," : "", can[call][i], given[call][can[call][i]]);
+            all = all && given[call][can[call][i]] > 0;
         }
+        printf("\n");
     }
     return all;
 }
@@ -299,7 +345,14 @@ static bool enough_hid(void)
     return 4 * hid >= looked && lowered > 0;
 }
 
-/* Both levels of the plain C, and whether every number and enough hidden rows were met. */
+/* Says how often pins made an edge, were driven and asserted the line; false if one of these was seldom met. */
+static bool enough_pins(void)
+{
+    printf("  of %u pin samples done %u made an edge; %u questions found a pin driven, %u lines were asserted by a pin alone\n", sampled, edged, drove, by_pin);
+    return 10 * edged >= sampled && drove > 1000 && by_pin > 100;
+}
+
+/* Both levels of the plain C, and whether every number, enough hidden rows and enough of the pins were met. */
 int main(void)
 {
     if (!compare(&proved, &plain_O2) || !compare(&proved, &plain_O3) || !compare_lists(&proved, &plain_O2) || !compare_lists(&proved, &plain_O3))
@@ -307,7 +360,7 @@ int main(void)
     if (!compare_groups(&proved, &plain_O2) || !compare_groups(&proved, &plain_O3))
         return 1;
     printf("the same answers: %u random calls of the archive and of the plain C at -O2, and as many at -O3\n", CALLS);
-    if (!all_given() || !enough_hid())
+    if (!all_given() || !enough_hid() || !enough_pins())
         return 1;
     printf("the same answers: %u random lists, packed, unpacked and played, at each level\n", LISTS);
     if (!all_lists_given())

@@ -1,6 +1,7 @@
 /*
  * The host's side of a key panel, for a driver's author to take over: start-up, and an interrupt routine that ends in every case (docs/HOST.md).
  * Plain C99; of panel.h it uses the names of registers, flags and codes alone.
+ * It enables no edge of a spare pin: a driver that does reads IRQST first, as docs/HOST.md has it, since such an edge asserts the line with KBDMIS 00.
  */
 #include "panel.h"
 

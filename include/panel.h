@@ -9,7 +9,13 @@
  *     number = panel_look(&panel, samples, PANEL_ROWS);
  *     number = panel_read(&panel, PANEL_EVTCODE, codes, sizeof codes);
  *
- * A session can be carried to another place: its calls are packed, one by one or all at once, and a panel that plays the list ends as this one:
+ * Pins that the keypad's size leaves free are plain I/O, for lamps and a foot switch: their samples are handed in, and what is driven is asked for:
+ *
+ *     number = panel_pins(&panel, sample);
+ *     number = panel_drive(&panel, &driven, &level);
+ *
+ * A session can be carried to another place: its calls are packed, one by one or all at once, and a panel that plays the list ends as this one,
+ * but for what pin samples did, since they aren't carried:
  *
  *     number = panel_pack_next(&call, list, sizeof list, &place);
  *     number = panel_play(&other, list, panel_packed(place));
@@ -27,11 +33,12 @@
  * only records does without it; panel_group, panel_stretch and panel_groups are in libgroups.a, by `rt staticlib groups`, for the computer that has the
  * codes. They need memcpy and the like, and nothing else.
  *
- * What the fourteen calls do is proved, for every module, every argument and every length. Outside the proof, and so for the caller to see to:
+ * What the sixteen calls do is proved, for every module, every argument and every length. Outside the proof, and so for the caller to see to:
  *   - every bool of a `struct panel`, and the bool that takes an answer, is the byte 0 or 1 before the call. Soundness doesn't see another
  *     byte there, so ask panel_bools_ok of a module that comes from storage; panel_reset and panel_play ask nothing of the memory that they fill;
  *   - a pointer is valid for its length, and not null, also when the length is 0 and when the call is declined;
- *   - module, samples, bytes, buffer, answer and `done` don't overlap, nor do calls, packed list, length, place and end, nor codes, ends and what a call fills;
+ *   - module, samples, bytes, buffer, answer, `done`, `driven` and `level` don't overlap, nor do calls, packed list, length, place and end, nor codes, ends
+ *     and what a call fills;
  *   - one call at a time on one module, interrupt routines included, and the questions too: a call in the midst of another sees half of it.
  *     Calls on two modules never meet;
  *   - the C compiler, and the inline functions of this file.
@@ -47,8 +54,8 @@
  * This header's version, 10000 x first + 100 x second + third. The first rises when a caller must be changed or compiled again: another layout,
  * another meaning of a call. The second rises when something is added, the third when only words change. Header and archive are of one version.
  */
-#define PANEL_VERSION 30100
-#define PANEL_VERSION_TEXT "3.1.0"
+#define PANEL_VERSION 40000
+#define PANEL_VERSION_TEXT "4.0.0"
 
 /* On a call that gives a number: the compiler warns if nobody looks at it. */
 #if defined(__GNUC__)
@@ -64,20 +71,21 @@ extern "C" {
 /* The numbers that a call can give. 9 was given by no call, is retired and gets no new use. */
 enum panel_number {
     PANEL_DONE = 0,
-    PANEL_NOT_EIGHT = 1,    /* look: the list isn't eight samples; block: its length isn't a multiple of eight */
-    PANEL_HIGH_BITS = 2,    /* look, also one of a block: some sample has bit 13, 14 or 15 set */
-    PANEL_NO_BYTES = 3,     /* access: no bytes */
-    PANEL_TOO_MANY = 4,     /* access: more than 32 bytes */
-    PANEL_NOT_ALLOWED = 5,  /* access: some address of the run is unknown, or can't be read or written as asked */
-    PANEL_BAD_SIZE = 6,     /* write: a byte for KBDSIZE isn't acceptable */
-    PANEL_NO_KEY = 7,       /* held question: row above 7 or column above 12 */
-    PANEL_UNSOUND = 8,      /* look, block, access, question: the module isn't sound; never after calls from reset alone */
-    PANEL_CUT_SHORT = 20,   /* packed list: cut short or padded wrongly */
-    PANEL_NO_ROOM = 21,     /* packing: the buffer is too short */
-    PANEL_BEYOND_END = 22,  /* undo groups: the place is beyond the end of the list */
-    PANEL_BAD_CODE = 23,    /* undo groups: the trim key's code is no press of a key, or some code of the list no press or release of one */
-    PANEL_BAD_CHANGE = 24,  /* undo groups: a press of a key that is down, or a release of one that is up; no key is down at the list's start */
-    PANEL_INSIDE_GROUP = 25 /* undo groups: the place is before the end, and inside a group or past the start of an open one */
+    PANEL_NOT_EIGHT = 1,     /* look: the list isn't eight samples; block: its length isn't a multiple of eight */
+    PANEL_HIGH_BITS = 2,     /* look, also one of a block: some sample has bit 13, 14 or 15 set */
+    PANEL_NO_BYTES = 3,      /* access: no bytes */
+    PANEL_TOO_MANY = 4,      /* access: more than 32 bytes */
+    PANEL_NOT_ALLOWED = 5,   /* access: some address of the run is unknown, or can't be read or written as asked */
+    PANEL_BAD_SIZE = 6,      /* write: a byte for KBDSIZE isn't acceptable */
+    PANEL_NO_KEY = 7,        /* held question: row above 7 or column above 12 */
+    PANEL_UNSOUND = 8,       /* look, block, access, pin sample, question: the module isn't sound; never after calls from reset alone */
+    PANEL_CUT_SHORT = 20,    /* packed list: cut short or padded wrongly */
+    PANEL_NO_ROOM = 21,      /* packing: the buffer is too short */
+    PANEL_BEYOND_END = 22,   /* undo groups: the place is beyond the end of the list */
+    PANEL_BAD_CODE = 23,     /* undo groups: the trim key's code is no press of a key, or some code of the list no press or release of one */
+    PANEL_BAD_CHANGE = 24,   /* undo groups: a press of a key that is down, or a release of one that is up; no key is down at the list's start */
+    PANEL_INSIDE_GROUP = 25, /* undo groups: the place is before the end, and inside a group or past the start of an open one */
+    PANEL_BAD_PINS = 26      /* pin sample: a bit above 18 is set */
 };
 
 /* The registers, by the data sheet's names. Every other address is unknown. */
@@ -93,7 +101,55 @@ enum panel_register {
     PANEL_KBDCODE2 = 0x0D,
     PANEL_KBDCODE3 = 0x0E,
     PANEL_EVTCODE = 0x10,   /* R: the oldest waiting code, which is taken out; the address stays here in a longer read */
-    PANEL_RSTINTCLR = 0x84  /* W: bit 0 clears PORIRQ; other bits are ignored */
+    PANEL_RSTINTCLR = 0x84, /* W: bit 0 clears PORIRQ; other bits are ignored */
+    PANEL_IRQST = 0x91,     /* R: the bits of panel_irq; the interrupt line is asserted exactly when it isn't 0. A read clears nothing */
+
+    /*
+     * The pins' registers: 0 is for pins 0 to 7, 1 for pins 8 to 15, 2 for pins 16 to 18 in its bits 0 to 2. What is written, but to GPIOIC, is kept whole,
+     * over a write of KBDSIZE too. A pin that the keypad's size uses drives nothing and makes no edge; once it is free, it does what the kept bits say.
+     */
+    PANEL_IOPC0_LOW = 0xAA,  /* R/W: pulls, two bits a pin, of pins 0 to 3: 0 none, 1 down, 2 and 3 up; kept, and for the board to act on */
+    PANEL_IOPC0_HIGH = 0xAB, /* R/W: of pins 4 to 7 */
+    PANEL_IOPC1_LOW = 0xAC,  /* R/W: of pins 8 to 11 */
+    PANEL_IOPC1_HIGH = 0xAD, /* R/W: of pins 12 to 15 */
+    PANEL_IOPC2_LOW = 0xAE,  /* R/W: of pins 16 to 18 */
+    PANEL_IOPC2_HIGH = 0xAF, /* R/W: reserved */
+    PANEL_GPIODATA0 = 0xC0,  /* R/W: the level to drive; reads that level of an output, the newest sample of an input, 0 of a masked or used pin */
+    PANEL_GPIOMASK0 = 0xC1,  /* W: a 1 enables the data bit: without it the pin isn't driven, and its data reads 0 */
+    PANEL_GPIODATA1 = 0xC2,
+    PANEL_GPIOMASK1 = 0xC3,
+    PANEL_GPIODATA2 = 0xC4,
+    PANEL_GPIOMASK2 = 0xC5,
+    PANEL_GPIODIR0 = 0xC6,   /* R/W: 0 input, 1 output */
+    PANEL_GPIODIR1 = 0xC7,
+    PANEL_GPIODIR2 = 0xC8,
+    PANEL_GPIOIS0 = 0xC9,    /* R/W: 0 edge, 1 level, which makes no interrupt here */
+    PANEL_GPIOIS1 = 0xCA,
+    PANEL_GPIOIS2 = 0xCB,
+    PANEL_GPIOIBE0 = 0xCC,   /* R/W: 1 both edges, 0 the one that GPIOIEV says */
+    PANEL_GPIOIBE1 = 0xCD,
+    PANEL_GPIOIBE2 = 0xCE,
+    PANEL_GPIOIEV0 = 0xCF,   /* R/W: 1 rising, 0 falling */
+    PANEL_GPIOIEV1 = 0xD0,
+    PANEL_GPIOIEV2 = 0xD1,
+    PANEL_GPIOIE0 = 0xD2,    /* R/W: a 1 enables the edge's interrupt; the other sense than in KBDMSK */
+    PANEL_GPIOIE1 = 0xD3,
+    PANEL_GPIOIE2 = 0xD4,
+    PANEL_GPIORIS0 = 0xD6,   /* R: the edges that are pending, enabled or not */
+    PANEL_GPIORIS1 = 0xD7,
+    PANEL_GPIORIS2 = 0xD8,
+    PANEL_GPIOMIS0 = 0xD9,   /* R: GPIORIS with the bits that are 0 in GPIOIE made 0 */
+    PANEL_GPIOMIS1 = 0xDA,
+    PANEL_GPIOMIS2 = 0xDB,
+    PANEL_GPIOIC0 = 0xDC,    /* W: a 1 clears the pending edge; nothing else but reset does */
+    PANEL_GPIOIC1 = 0xDD,
+    PANEL_GPIOIC2 = 0xDE,
+    PANEL_GPIOOME0 = 0xE0,   /* R/W: 1 open drain, 0 full buffer */
+    PANEL_GPIOOMS0 = 0xE1,   /* R/W: open drain with 0 drives only the level 0, with 1 only the level 1 */
+    PANEL_GPIOOME1 = 0xE2,
+    PANEL_GPIOOMS1 = 0xE3,
+    PANEL_GPIOOME2 = 0xE4,
+    PANEL_GPIOOMS2 = 0xE5
 };
 
 /* The bits of KBDRIS, KBDMIS and KBDMSK. */
@@ -102,6 +158,13 @@ enum panel_flag {
     PANEL_RKLINT = 0x02,  /* a key changed while RSINT was set */
     PANEL_REVTINT = 0x04, /* a code waits */
     PANEL_RELINT = 0x08   /* a code was dropped, since 15 waited */
+};
+
+/* The bits of IRQST. */
+enum panel_irq {
+    PANEL_GPIOIRQ = 0x01, /* some GPIOMIS isn't 0 */
+    PANEL_KBDIRQ = 0x40,  /* KBDMIS isn't 0 */
+    PANEL_PORIRQ = 0x80   /* reset happened */
 };
 
 /* Codes: a key's press code is 16 x row + column, its release code has PANEL_RELEASED added. */
@@ -116,13 +179,22 @@ enum panel_count {
     PANEL_ROWS = 8,
     PANEL_COLS = 13, /* column 12 is the row's special function key; its closed contact hides the others of the row */
     PANEL_KEYS = 104,
+    PANEL_PINS = 19,   /* Genio0 to Genio18; pin 19 is the interrupt line */
     PANEL_PLACES = 15, /* codes that can wait */
     PANEL_BYTES = 32,  /* the most that an access carries */
     PANEL_RECORD = 34  /* the most bytes that a call takes in a packed list: a write of 32; a look takes 13.25 */
 };
 
+/* The pins: 72 bytes. Every value is sound; before the first sample the levels aren't looked at. */
+struct panel_pins {
+    uint8_t kept[33]; /* the registers that are kept, by address: 0xAA to 0xAF, 0xC0 to 0xD4, 0xE0 to 0xE5 */
+    bool edge[19];    /* is the pin's edge pending? GPIORIS */
+    bool level[19];   /* its newest sample */
+    bool sampled;     /* a sample came since reset */
+};
+
 /*
- * The module: 235 bytes, alignment 1, no padding. Key k is 13 x row + column.
+ * The module: 307 bytes, alignment 1, no padding. Key k is 13 x row + column.
  * It is sound when each field is as said here; a call declines any other with PANEL_UNSOUND, one of zeros too: begin with panel_reset.
  */
 struct panel {
@@ -138,6 +210,7 @@ struct panel {
     bool relint;
     bool porirq;       /* reset happened; the interrupt line is asserted until RSTINTCLR clears it */
     bool seen[4];      /* which picture registers were read: never all four */
+    struct panel_pins pins;
 };
 
 /* A row, 0 to 7, and a column, 0 to 12: types of their own, so that the compiler rejects one used as the other. */
@@ -149,7 +222,7 @@ struct panel_col {
     uint8_t col;
 };
 
-/* The kinds of a call in a list. A block of looks goes there look by look. */
+/* The kinds of a call in a list. A block of looks goes there look by look, a pin sample not at all. */
 enum panel_kind {
     PANEL_LOOK = 0,
     PANEL_WRITE = 1,
@@ -229,10 +302,27 @@ PANEL_NUMBER uint8_t panel_read(struct panel *panel, uint8_t first, uint8_t *buf
 PANEL_NUMBER uint8_t panel_held(const struct panel *panel, struct panel_row row, struct panel_col col, bool *yes);
 
 /*
- * Is the interrupt line asserted? The answer goes to `yes`; no, if the call is declined. The module is only looked at.
+ * Is the interrupt line asserted? It is exactly when PORIRQ is set, KBDMIS isn't 0, or a pin's edge is pending and enabled in GPIOIE: when IRQST isn't 0.
+ * The answer goes to `yes`; no, if the call is declined. The module is only looked at.
  * Numbers: PANEL_UNSOUND, else PANEL_DONE.
  */
 PANEL_NUMBER uint8_t panel_interrupt(const struct panel *panel, bool *yes);
+
+/*
+ * A sample of all pins, bit i for pin i. The keypad of R rows and C columns uses pins 0 to R - 1 and 8 to 7 + C, of these up to 18; every other is plain.
+ * A plain pin's edge is pending from now on if it is an input (GPIODIR 0), senses edges (GPIOIS 0), its level isn't that of the sample before, and
+ * GPIOIBE is 1 or the new level is its GPIOIEV. The first sample after reset makes no edge, a declined one is none; a write of KBDSIZE forgets none.
+ * Numbers: PANEL_UNSOUND, PANEL_BAD_PINS, else PANEL_DONE.
+ */
+PANEL_NUMBER uint8_t panel_pins(struct panel *panel, uint32_t sample);
+
+/*
+ * Which pins are driven, and to which level? Bit i of `driven` is 1 if pin i is, and bit i of `level` then its level; 0 where it isn't.
+ * Driven is a plain pin that is an output (GPIODIR 1) and enabled (GPIOMASK 1), to its GPIODATA, but not by an open drain (GPIOOME 1) to the level other
+ * than its GPIOOMS. Declined: both are 0. The module is only looked at.
+ * Numbers: PANEL_UNSOUND, else PANEL_DONE.
+ */
+PANEL_NUMBER uint8_t panel_drive(const struct panel *panel, uint32_t *driven, uint32_t *level);
 
 /* What reset makes: the module after it, and the number. It fills the struct and hands the pointer back; panel_reset below is the call to use. */
 struct panel_done {
@@ -278,7 +368,7 @@ struct panel_handed *panel_groups_value(struct panel_handed *made, uint8_t trim,
 /* Refused, by a name that tells what is wrong, if the compiler lays the structs out otherwise than the archive. */
 #define PANEL_SEEN(name, fact) typedef char name[(fact) ? 1 : -1]
 #define PANEL_AT(field, place) PANEL_SEEN(panel_##field##_is_at_##place, offsetof(struct panel, field) == (place))
-PANEL_SEEN(panel_is_235_bytes, sizeof(struct panel) == 235);
+PANEL_SEEN(panel_is_307_bytes, sizeof(struct panel) == 307);
 PANEL_AT(held, 0);
 PANEL_AT(run, 104);
 PANEL_AT(queue, 208);
@@ -291,11 +381,17 @@ PANEL_AT(rklint, 228);
 PANEL_AT(relint, 229);
 PANEL_AT(porirq, 230);
 PANEL_AT(seen, 231);
+PANEL_AT(pins, 235);
 PANEL_SEEN(panel_done_after_is_at_0, offsetof(struct panel_done, after) == 0);
-PANEL_SEEN(panel_done_number_is_at_235, offsetof(struct panel_done, number) == 235);
-PANEL_SEEN(panel_done_is_236_bytes, sizeof(struct panel_done) == 236);
+PANEL_SEEN(panel_done_number_is_at_307, offsetof(struct panel_done, number) == 307);
+PANEL_SEEN(panel_done_is_308_bytes, sizeof(struct panel_done) == 308);
 PANEL_SEEN(panel_row_and_col_are_a_byte_each, sizeof(struct panel_row) == 1 && sizeof(struct panel_col) == 1);
 #define PANEL_IN(type, field, place) PANEL_SEEN(panel_##type##_##field##_is_at_##place, offsetof(struct panel_##type, field) == (place))
+PANEL_SEEN(panel_pins_is_72_bytes, sizeof(struct panel_pins) == 72);
+PANEL_IN(pins, kept, 0);
+PANEL_IN(pins, edge, 33);
+PANEL_IN(pins, level, 52);
+PANEL_IN(pins, sampled, 71);
 PANEL_SEEN(panel_call_is_70_bytes, sizeof(struct panel_call) == 70);
 PANEL_IN(call, kind, 0);
 PANEL_IN(call, first, 2);
@@ -454,13 +550,13 @@ PANEL_NUMBER static inline struct panel_handed panel_groups(uint8_t trim, const 
     return made;
 }
 
-/* Are the 112 bool bytes of a restored module 0 or 1? They are read as bytes; what else makes it unsound, a call tells. */
+/* Are the 151 bool bytes of a restored module 0 or 1? They are read as bytes; what else makes it unsound, a call tells. */
 static inline bool panel_bools_ok(const struct panel *panel)
 {
     const unsigned char *bytes = (const unsigned char *)panel;
-    unsigned i, all = 0;
+    unsigned i, all = 0, kept = offsetof(struct panel, pins) + offsetof(struct panel_pins, kept);
     for (i = 0; i < sizeof *panel; i++) {
-        if (i < offsetof(struct panel, run) || i >= offsetof(struct panel, rsint))
+        if (i < offsetof(struct panel, run) || (i >= offsetof(struct panel, rsint) && i < kept) || i >= kept + sizeof panel->pins.kept)
             all |= bytes[i];
     }
     return all <= 1;

@@ -1,20 +1,22 @@
 //! Plants the errors of tests/planted: for each edit a copy of the file that it names, with the edit
 //! in it, and planted.rs, which lists them all. Only tests/planted.rs takes them in.
 //!
-//! A console can be made over any module. What else it is made of stands in its text, so an edit
-//! there brings a copy of the console along that uses the edited copy, and copies of what stands
-//! between the two.
+//! A console can be made over any module, also over a copy of the module that uses edited pins. What
+//! else a console is made of stands in its text, so an edit there brings a copy of the console along
+//! that uses the edited copy, and copies of what stands between the two.
 
 use std::env::var;
 use std::fs::{read_dir, read_to_string, write};
 use std::path::Path;
 
+const PINS: &str = "src/pins.rs";
 const MODULE: &str = "src/module.rs";
 const CONSOLE: &str = "src/console.rs";
 const EDITS: &str = "tests/planted";
 
 /// The files that can be edited, each before those that use it.
-const FILES: [&str; 7] = [
+const FILES: [&str; 8] = [
+    PINS,
     MODULE,
     "src/carry.rs",
     "src/typed.rs",
@@ -36,9 +38,13 @@ fn main() {
         modules += &module(&ident, &text);
         let console = match file {
             MODULE => format!("Console::over(Box::new({ident}::Module::new()))"),
+            PINS => {
+                modules += &users(file, MODULE, &ident);
+                format!("Console::over(Box::new({ident}_module::Module::new()))")
+            }
             CONSOLE => format!("{ident}::Console::new()"),
             _ => {
-                modules += &users(file, &ident);
+                modules += &users(file, CONSOLE, &ident);
                 format!("{ident}_console::Console::new()")
             }
         };
@@ -55,12 +61,13 @@ fn module(ident: &str, text: &str) -> String {
     format!("#[allow(warnings)]\n#[path = {path:?}]\nmod {ident};\n")
 }
 
-/// Writes copies of all that use an edited file, up to the console, each with the copies before it
-/// in the place of what it uses. Gives the lines that take them in.
-fn users(file: &str, ident: &str) -> String {
+/// Writes copies of all that use an edited file, up to the last one wanted, each with the copies
+/// before it in the place of what it uses. Gives the lines that take them in.
+fn users(file: &str, last: &str, ident: &str) -> String {
     let mut copies = vec![(uses(file), ident.to_string())];
     let mut modules = String::new();
-    for user in FILES.iter().skip_while(|user| **user != file).skip(1) {
+    let place = |wanted: &str| FILES.iter().position(|file| *file == wanted).unwrap();
+    for user in &FILES[place(file) + 1..=place(last)] {
         let text = read_to_string(user).unwrap();
         let over = copies.iter().fold(text.clone(), |text, (used, copy)| {
             text.replace(used, &format!("use crate::{copy}::"))

@@ -30,14 +30,29 @@ function padded(text, n) {
     return sprintf("%-" (n > length(text) + 2 ? n : length(text) + 2) "s", text)
 }
 
-# the words of the bytes that a read gave, from its address on; \001 is a blank at which no line ends
+# the words of a byte by its address: EVTCODE, the picture, IRQST, GPIODATA, GPIORIS and GPIOMIS; none of another
+function byte_words(address, byte) {
+    if (address == 16) return code_words(byte)
+    if (address >= 11 && address <= 14) return picture_words(byte)
+    if (address == 145) return irqst_words(byte)
+    if (address == 192 || address == 194 || address == 196) return pins_words("", byte, 4 * (address - 192), " is 1")
+    if (address >= 214 && address <= 216) return pins_words("edge of ", byte, 8 * (address - 214), "")
+    if (address >= 217 && address <= 219) return pins_words("enabled edge of ", byte, 8 * (address - 217), "")
+    return ""
+}
+
+# a list of words in which no line ends but behind a comma; \001 is a blank at which none ends
+function kept_together(words) {
+    gsub(/ /, "\001", words)
+    gsub(/,\001/, ", ", words)
+    return words
+}
+
+# the words of the bytes that a read gave, from its address on
 function read_words(address, bytes, n,    i, all, one) {
     for (i = 2; i <= n; i++) {
-        one = ""
-        if (address == 16) one = code_words(bytes[i])
-        if (address >= 11 && address <= 14) one = picture_words(bytes[i])
-        gsub(/ /, "\001", one)
-        if (one != "") all = all (all == "" ? "" : ", ") one
+        one = kept_together(byte_words(address, bytes[i]))
+        if (one != "") all = also(all, one)
         if (address == 16 && value(bytes[i]) == 127) break
         if (address != 16) address++
     }
@@ -57,7 +72,8 @@ function words_of(line, answer,    word, given, n) {
     n = split(answer, given, " ")
     if (is_block(line)) return block_words(given[1], given[2])
     if (given[1] != "0") return declined_words(given[1])
-    split(line, word, " ")
+    words_in(line, word)
+    if (word[1] == "drive") return kept_together(levels_words(given[2]))
     return word[1] == "read" ? read_words(value(word[2]), given, n) : ""
 }
 

@@ -20,7 +20,7 @@ shut() {
     esac
 }
 
-no_disk() { failed "the disk is full: proving and building the console takes 150 MB in $root/target and 1 MB in ${TMPDIR:-/tmp}"; }
+no_disk() { failed "the disk is full: proving and building the console takes 320 MB in $root/target and 1 MB in ${TMPDIR:-/tmp}"; }
 no_target() { failed "$root/target can't be written to, and the console is proved and built there: clone to a place that can be"; }
 no_temporary() { failed "no temporary folder can be made in ${TMPDIR:-/tmp}: set TMPDIR to a folder that can be written to"; }
 

@@ -74,6 +74,37 @@ function picture_words(byte,    n) {
     return "held " place(n % 128) (n < 128 ? "" : " and more")
 }
 
+# one more behind what a list has
+function also(all, one) { return all (all == "" ? "" : ", ") one }
+
+# a byte of IRQST
+function irqst_words(byte,    n, all) {
+    n = value(byte)
+    if (n >= 128) all = "power-on interrupt"
+    if (int(n / 64) % 2) all = also(all, "keypad interrupt")
+    if (n % 2) all = also(all, "pin interrupt")
+    return all == "" ? "no interrupt" : all
+}
+
+# the pins that have a 1 in a byte, the first of which is this one, with words before and behind each
+function pins_words(before, byte, first, behind,    n, pin, all) {
+    n = value(byte)
+    for (pin = first; n > 0; pin++) {
+        if (n % 2) all = also(all, before "pin " pin behind)
+        n = int(n / 2)
+    }
+    return all
+}
+
+# the levels that the pins are driven to, as `drive` answers
+function levels_words(levels,    pin, level, all) {
+    for (pin = 0; pin < length(levels); pin++) {
+        level = substr(levels, pin + 1, 1)
+        if (level != "-") all = also(all, "pin " pin " driven to " level)
+    }
+    return all == "" ? "no pin is driven" : all
+}
+
 # learns the words of the numbers from the host's page: the rows `| NUMBER | WORDS |` below its heading Numbers
 function learn_numbers(page,    line, part, within) {
     while ((getline line < page) > 0) {

@@ -1,5 +1,11 @@
-//! The six calls of document 01 and the block of looks of document 02 (E2), which a console makes of
-//! its module, and a call as a value.
+//! The six calls of document 01, and of document 02 the block of looks (E2), the pin sample and the
+//! question what the pins drive (E6), which a console makes of its module, and a call as a value.
+
+/// How many pins can be plain inputs and outputs.
+pub const PINS: usize = 19;
+
+/// The level of each pin that is driven.
+pub type Driven = [Option<bool>; PINS];
 
 /// What any key module answers: a number for each call, and a question's answer with it.
 pub trait Calls {
@@ -18,14 +24,21 @@ pub trait Calls {
     /// The read access, which fills the buffer lent.
     fn read(&mut self, first: u8, buffer: &mut [u8]) -> u8;
 
+    /// One sample of the pins, with a bit for each.
+    fn pins(&mut self, sample: u32) -> u8;
+
     /// The question whether a key is held.
     fn held(&self, row: u8, column: u8) -> (u8, bool);
 
     /// The question whether the interrupt line is asserted.
     fn interrupt(&self) -> (u8, bool);
+
+    /// The question which pins are driven.
+    fn drive(&self) -> (u8, Driven);
 }
 
-/// A call with what it is given. Questions and blocks are not among them.
+/// A call with what it is given. Questions, blocks and pin samples are not among
+/// them.
 #[derive(Clone, Debug, PartialEq)]
 pub enum Call {
     Reset,

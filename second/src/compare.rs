@@ -10,7 +10,7 @@ use crate::carry::{pack, unpack};
 use crate::console::{end, Console};
 use crate::script::Line;
 use crate::typed::{calls, list, sampled, spaced, text};
-use crate::words::{samples, shown, words};
+use crate::words::{number, samples, shown, words};
 use std::ffi::OsString;
 use std::io::{self, Write};
 use std::process::{Command, Stdio};
@@ -103,7 +103,7 @@ pub fn cut_down(script: &[Line], differs: &mut Differs) -> Vec<Line> {
 
 /// Makes lines plainer in the first way in which some can be.
 fn make_all_plainer(kept: &mut Vec<Line>, differs: &mut Differs) -> bool {
-    shorten(kept, differs) || thin(kept, differs) || quieten(kept, differs)
+    shorten(kept, differs) || thin(kept, differs) || quieten(kept, differs) || lower(kept, differs)
 }
 
 /// Takes the shorter or plainer script, up to its difference, if it has one.
@@ -269,6 +269,27 @@ fn with_row_masked(
     let rows = samples.iter_mut().skip(8 * place + row).step_by(8);
     rows.take(count).for_each(|sample| *sample &= mask);
     Some(sampled(&command, &samples).into_bytes()).filter(|_| samples != before)
+}
+
+/// Clears the bits of pin samples that are not needed.
+fn lower(kept: &mut Vec<Line>, differs: &mut Differs) -> bool {
+    let bits = |line: &[u8]| levels_of(line).map_or(0, |_| 32);
+    make_plainer(kept, bits, &with_bits_cleared, differs)
+}
+
+/// The bits of a pin sample.
+fn levels_of(line: &[u8]) -> Option<u32> {
+    match words(line).as_slice() {
+        [b"pins", sample] => number(sample, 16, u32::MAX).ok(),
+        _ => None,
+    }
+}
+
+/// A pin sample with some bits cleared, if there are fewer then.
+fn with_bits_cleared(line: &[u8], place: usize, count: usize) -> Option<Line> {
+    let before = levels_of(line)?;
+    let bits = (place..place + count).fold(before, |bits, bit| bits & !(1 << bit));
+    Some(format!("pins {bits:X}").into_bytes()).filter(|_| bits != before)
 }
 
 /// Compares a program with the second module on a script. Says whether they are the same.

@@ -5,7 +5,7 @@
 //! them, the codes fetched since the last restart, and the calls made so far, if the session is
 //! recorded.
 
-use crate::calls::{Call, Calls};
+use crate::calls::{Call, Calls, Driven};
 use crate::carry::{judge, pack, unpack, NO_LIST};
 use crate::fetched::Fetched;
 use crate::grouped::{answer_fetch, answer_group, answer_groups, drawing, undo};
@@ -18,6 +18,9 @@ pub const LONGEST: usize = 16_384;
 
 /// The most looks that one line can wait for.
 const LONGEST_WAIT: u32 = 65_535;
+
+/// The largest sample of the pins that can be given. Only its low bits are pins.
+const LARGEST_SAMPLE: u32 = 0xFFFF_FFFF;
 
 /// The largest room that a list can be packed for.
 const LARGEST_ROOM: u32 = 999_999;
@@ -168,6 +171,8 @@ impl Console {
             b"wait" => self.wait(words),
             b"held" => self.held(words),
             b"irq" => none(words).map(|_| question(self.module.interrupt())),
+            b"pins" => self.pins(words),
+            b"drive" => none(words).map(|_| levels(self.module.drive())),
             b"pack" => answer_pack(words),
             b"unpack" => answer_unpack(words),
             b"play" => Ok(self.play(&list(words)?).to_string()),
@@ -266,6 +271,12 @@ impl Console {
         Ok(question(self.module.held(asked.0, asked.1)))
     }
 
+    /// `pins SAMPLE`
+    fn pins(&mut self, words: &[&[u8]]) -> Answer {
+        let sample = number(one(words)?, 16, LARGEST_SAMPLE)?;
+        Ok(self.module.pins(sample).to_string())
+    }
+
     /// `undo TRIM`, `undo TRIM : C0 C1 ..`
     fn undo(&self, words: &[&[u8]]) -> Answer {
         Ok(match undo(words)? {
@@ -310,6 +321,19 @@ fn answer_unpack(words: &[&[u8]]) -> Answer {
 /// The answer to a question.
 fn question((number, yes): (u8, bool)) -> String {
     format!("{number} {}", if yes { "yes" } else { "no" })
+}
+
+/// The answer to `drive`: the level of each pin, from pin 0 on, or `-` if it is not driven.
+fn levels((number, driven): (u8, Driven)) -> String {
+    let level = |level: &Option<bool>| match level {
+        None => '-',
+        Some(false) => '0',
+        Some(true) => '1',
+    };
+    match number {
+        0 => format!("0 {}", driven.iter().map(level).collect::<String>()),
+        _ => number.to_string(),
+    }
 }
 
 /// The contact at ROW and COL: its row, and its bit in the row's sample.

@@ -9,6 +9,7 @@ pub mod fetched;
 pub mod grouped;
 pub mod malformed;
 pub mod module;
+pub mod pins;
 pub mod script;
 pub mod typed;
 pub mod undo;

@@ -4,8 +4,11 @@
 //! say so. A closed SF contact hides its row (document 02, E3): the row's other keys have no sample
 //! in that look. Held keys, waiting codes and read picture registers are ordinary collections. There
 //! is no unsound state, so number 8 is never given. A block (document 02, E2) is its single looks.
+//! The spare pins (document 02, E6) stand apart: here are their calls, and what they share with the
+//! keypad, its size and the interrupt line.
 
-use crate::calls::Calls;
+use crate::calls::{Calls, Driven, PINS};
+use crate::pins::Pins;
 use std::collections::{BTreeSet, VecDeque};
 use std::iter::successors;
 
@@ -13,6 +16,7 @@ const NO_KEY: u8 = 0x7F;
 const ADDED: u8 = 128;
 const SF: u8 = 12;
 const EVTCODE: usize = 0x10;
+const IRQST: usize = 0x91;
 
 /// How many codes can wait.
 const ROOM: usize = 15;
@@ -39,6 +43,7 @@ pub struct Module {
     rklint: bool,
     relint: bool,
     porirq: bool,
+    pins: Pins,
 }
 
 /// All keys by row, then by column.
@@ -63,12 +68,13 @@ fn closed(key: Key, list: &[u16]) -> bool {
 
 /// Whether the register at the address can be read.
 fn readable(address: usize) -> bool {
-    matches!(address, 0x02 | 0x03 | 0x06 | 0x07 | 0x09 | 0x0B..=0x0E | EVTCODE)
+    matches!(address, 0x02 | 0x03 | 0x06 | 0x07 | 0x09 | 0x0B..=0x0E | EVTCODE | IRQST)
+        || Pins::readable(address)
 }
 
 /// Whether the register at the address can be written.
 fn writable(address: usize) -> bool {
-    matches!(address, 0x02 | 0x03 | 0x08 | 0x09 | 0x84)
+    matches!(address, 0x02 | 0x03 | 0x08 | 0x09 | 0x84) || Pins::writable(address)
 }
 
 /// Whether KBDSIZE can take the byte.
@@ -98,6 +104,7 @@ impl Module {
             rklint: false,
             relint: false,
             porirq: true,
+            pins: Pins::new(),
         }
     }
 }
@@ -153,6 +160,14 @@ impl Calls for Module {
         number
     }
 
+    fn pins(&mut self, sample: u32) -> u8 {
+        if sample >> PINS != 0 {
+            return 26;
+        }
+        self.pins.sample(sample, self.size);
+        0
+    }
+
     fn held(&self, row: u8, column: u8) -> (u8, bool) {
         if row > 7 || column > 12 {
             return (7, false);
@@ -161,7 +176,11 @@ impl Calls for Module {
     }
 
     fn interrupt(&self) -> (u8, bool) {
-        (0, self.porirq || self.mis() != 0)
+        (0, self.porirq || self.mis() != 0 || self.pins.interrupt())
+    }
+
+    fn drive(&self) -> (u8, Driven) {
+        (0, self.pins.drive(self.size))
     }
 }
 
@@ -290,12 +309,13 @@ impl Module {
             0x08 => self.put_clear(byte),
             0x09 => self.mask = byte % 16,
             0x84 if byte % 2 == 1 => self.porirq = false,
-            // RSTINTCLR without bit 0. The access was judged before: no other address is asked.
-            _ => {}
+            0x84 => {}
+            // The access was judged before: the registers of the pins are left.
+            _ => self.pins.put(address, byte),
         }
     }
 
-    /// KBDSIZE is written, which restarts.
+    /// KBDSIZE is written, which restarts. The pins keep all they have.
     fn put_size(&mut self, byte: u8) {
         self.size = byte;
         self.samples.iter_mut().for_each(VecDeque::clear);
@@ -328,8 +348,9 @@ impl Module {
             0x09 => self.mask,
             0x0B..=0x0E => self.get_picture(address - 0x0B),
             EVTCODE => self.waiting.pop_front().unwrap_or(NO_KEY),
-            // The access was judged before: no other address is asked.
-            _ => NO_KEY,
+            IRQST => self.irqst(),
+            // The access was judged before: the registers of the pins are left.
+            _ => self.pins.get(address, self.size),
         }
     }
 
@@ -342,6 +363,12 @@ impl Module {
     /// KBDMIS: KBDRIS with the masked bits made 0.
     fn mis(&self) -> u8 {
         self.ris() & !self.mask
+    }
+
+    /// IRQST: PORIRQ in bit 7, the keypad in bit 6, the pins in bit 0.
+    fn irqst(&self) -> u8 {
+        let (keypad, pins) = (self.mis() != 0, self.pins.interrupt());
+        128 * u8::from(self.porirq) + 64 * u8::from(keypad) + u8::from(pins)
     }
 
     /// KBDCODEn is read: its byte, and after that the clearing if all four have been read.

@@ -3,14 +3,15 @@
 //! A script is a row of stretches of 50 to 400 lines. Each has a regime: typing, fingers on the
 //! panel, a storm of changes, picture reading, patience under a long bounce, settings that churn,
 //! registers at random, calls that are declined, lists that are carried, blocks of looks, direct keys
-//! that hide their rows, lists of codes that are cut into undo groups, editing with a trim key. The
-//! contacts go on from one stretch to the next.
+//! that hide their rows, lists of codes that are cut into undo groups, editing with a trim key, lamps
+//! and switches on spare pins. The contacts and the pins go on from one stretch to the next.
 
 mod blocks;
 mod carry;
 mod direct;
 mod fingers;
 mod lists;
+mod pins;
 mod undo;
 
 use crate::calls::Call;
@@ -53,7 +54,7 @@ const BAD_SIZES: [u8; 10] = [0x1C, 0x2D, 0x92, 0x81, 0x21, 0x12, 0x00, 0xFF, 0x9
 type Regime = (fn(&mut Maker), fn(&mut Maker));
 
 /// The regimes; those that are there twice are taken twice as often.
-const REGIMES: [Regime; 20] = [
+const REGIMES: [Regime; 24] = [
     (Maker::begin_typing, Maker::type_keys),
     (Maker::begin_typing, Maker::type_keys),
     (Maker::begin_fingers, Maker::move_fingers),
@@ -74,6 +75,10 @@ const REGIMES: [Regime; 20] = [
     (Maker::begin_direct, Maker::hide_rows),
     (Maker::begin_typing, Maker::cut_lists),
     (Maker::begin_editing, Maker::edit),
+    (Maker::begin_pins, Maker::use_pins),
+    (Maker::begin_pins, Maker::use_pins),
+    (Maker::begin_pins, Maker::use_pins),
+    (Maker::begin_pins, Maker::use_pins),
 ];
 
 /// Ways to quit.
@@ -108,6 +113,8 @@ struct Maker {
     /// The contacts that are closed, and those that still bounce.
     closed: [u16; 8],
     bouncing: [u16; 8],
+    /// The levels of the pins.
+    levels: u32,
     /// The trim key.
     trim: (usize, u32),
 }
@@ -118,14 +125,23 @@ impl Maker {
     fn new(seed: u64) -> Maker {
         let mut chance = Chance::new(seed);
         let malformed = Malformed::new(&mut chance);
-        let (closed, bouncing) = ([0; 8], [0; 8]);
-        Maker { chance, malformed, lines: Vec::new(), size: 0x22, closed, bouncing, trim: (0, 0) }
+        Maker {
+            chance,
+            malformed,
+            lines: Vec::new(),
+            size: 0x22,
+            closed: [0; 8],
+            bouncing: [0; 8],
+            levels: 0,
+            trim: (0, 0),
+        }
     }
 
     /// One stretch of lines in one regime, with a few lines aside.
     fn stretch(&mut self) {
         let (begin, step) = self.chance.pick(&REGIMES);
         let end = self.lines.len() + self.chance.between(50, 400);
+        self.hush_pins();
         begin(self);
         while self.lines.len() < end {
             step(self);
@@ -145,13 +161,14 @@ impl Maker {
 
     /// Now and then a line that has nothing to do with the regime.
     fn aside(&mut self) {
-        if self.chance.one_in(12) {
+        if self.chance.one_in(10) {
             let line = self.malformed.line(&mut self.chance);
             self.lines.push(line);
         }
         match self.chance.below(40) {
             0 => self.undo(),
-            1 => self.ask_groups(),
+            1..=2 => self.ask_groups(),
+            3 => self.use_pins(),
             _ => {}
         }
         if self.chance.one_in(250) {
@@ -198,7 +215,7 @@ impl Maker {
             0x03 => self.some_size(),
             0x08 | 0x09 if self.chance.one_in(2) => self.chance.below(16) as u8,
             0x84 if self.chance.one_in(2) => self.chance.below(2) as u8,
-            _ => self.chance.byte(),
+            _ => self.some_pin_byte(address),
         }
     }
 }
@@ -223,7 +240,7 @@ impl Maker {
     }
 
     /// A hexadecimal number, now and then in another shape.
-    fn hex(&mut self, value: u16, width: usize) -> String {
+    fn hex(&mut self, value: u32, width: usize) -> String {
         match self.chance.below(30) {
             0 => format!("{value:X}"),
             1 => format!("{value:x}"),
@@ -261,7 +278,7 @@ impl Maker {
     /// The words of a command with samples.
     fn sampled(&mut self, command: &str, samples: &[u16]) -> Vec<String> {
         let mut words = vec![command.to_string()];
-        words.extend(samples.iter().map(|sample| self.hex(*sample, 4)));
+        words.extend(samples.iter().map(|sample| self.hex((*sample).into(), 4)));
         words
     }
 
@@ -420,7 +437,7 @@ impl Maker {
 impl Maker {
     /// Looks at something that tells how the module stands.
     fn probe(&mut self) {
-        match self.chance.below(12) {
+        match self.chance.below(13) {
             0..=1 => self.read(0x06, 1),
             2 => self.read(0x07, 1),
             3..=4 => self.read(0x06, 2),
@@ -428,6 +445,7 @@ impl Maker {
             7..=8 => self.ask_held(),
             9 => self.read(0x02, 2),
             10 => self.read(0x09, 1),
+            11 => self.read(0x91, 1),
             _ => self.read(0x0B, 4),
         }
     }
@@ -517,13 +535,35 @@ impl Maker {
     fn storm(&mut self) {
         self.flip_many();
         self.looks(2);
-        match self.chance.below(8) {
+        match self.chance.below(10) {
             0..=1 => self.fetch(),
-            2 => self.drain(),
+            2 => {
+                self.drain();
+                if self.chance.one_in(3) {
+                    self.undo();
+                }
+            }
             3 => self.serve(),
             4 => self.clear(),
+            5 => {
+                self.read(0x0B, 4);
+                self.read(0x06, 1);
+            }
+            6 => self.turn_some(),
             _ => self.probe(),
         }
+    }
+
+    /// Any number of keys turn at once when no code waits, and all their codes are fetched.
+    fn turn_some(&mut self) {
+        self.read(0x10, 32);
+        for _ in 0..self.chance.between(1, 16) {
+            self.touch();
+        }
+        self.bouncing = [0; 8];
+        self.look();
+        self.look();
+        self.read(0x10, 32);
     }
 
     /// Turns the contacts of many keys. Direct keys seldom go down, and soon up again.
@@ -685,9 +725,10 @@ impl Maker {
             7 => self.decline_block(),
             _ => self.ask_held(),
         }
-        match self.chance.below(5) {
+        match self.chance.below(6) {
             0 => self.fetch(),
             1..=3 => self.probe(),
+            4 => self.wait_some(),
             _ => {}
         }
     }

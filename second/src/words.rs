@@ -66,13 +66,13 @@ pub fn number(word: &[u8], radix: u32, most: u32) -> Result<u32, Wrong> {
 
 /// The value of a word of digits, however many they are; none if it is above `most`.
 pub fn value(word: &[u8], radix: u32, most: u32) -> Result<Option<u32>, Wrong> {
-    let mut value = 0;
+    let (mut value, above) = (0, u64::from(most) + 1);
     for byte in word {
         let digit = char::from(*byte).to_digit(radix).ok_or_else(|| not_a_number(word, radix))?;
         // Once above the most it stays above, and never wraps.
-        value = (value * radix + digit).min(most + 1);
+        value = (value * u64::from(radix) + u64::from(digit)).min(above);
     }
-    Ok(Some(value).filter(|value| *value <= most))
+    Ok(Some(value).filter(|value| *value < above).map(|value| value as u32))
 }
 
 /// Says that a word has other bytes than digits.

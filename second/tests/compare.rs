@@ -139,6 +139,27 @@ fn only_the_codes_that_lead_to_the_difference_are_kept() {
     }
 }
 
+#[test]
+fn only_the_pins_that_lead_to_the_difference_are_kept() {
+    // A stand-in that goes wrong at a sample with pin 2 high and a later one with pin 18 high.
+    let mut differs = |script: &[Line]| {
+        let has = |line: &Line, bit: u32| {
+            let text = String::from_utf8_lossy(line);
+            let sample = text.trim().strip_prefix("pins ").map(|text| text.trim().to_string());
+            let sample = sample.and_then(|text| u32::from_str_radix(&text, 16).ok());
+            sample.map_or(false, |sample| sample >> bit & 1 == 1)
+        };
+        let first = script.iter().position(|line| has(line, 2))?;
+        Some(first + script[first..].iter().position(|line| has(line, 18))?)
+    };
+    let script = lines(&["pins 0", "pins FC", "irq", "pins  00fffffFfF \r", "drive"]);
+    assert_eq!(cut_down(&script, &mut differs), lines(&["pins 40004"]));
+    let script = lines(&["pins 3FFFC", "pins", "pins 40000 0", "pins 7ffff"]);
+    assert_eq!(cut_down(&script, &mut differs), lines(&["pins 40004"]));
+    let script = lines(&["pins 3FFFC", "irq", "pins 7fff8"]);
+    assert_eq!(cut_down(&script, &mut differs), lines(&["pins 4", "pins 40000"]));
+}
+
 /// The samples of a block, or none of any other line.
 fn block(line: &Line) -> Vec<u16> {
     let text = String::from_utf8_lossy(line);

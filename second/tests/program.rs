@@ -264,6 +264,8 @@ fn a_session_is_recorded() {
         // The look that is done, and neither the one that is declined nor the one behind it.
         ("reset\nlooks 0 0 0 0 0 0 0 0 2000 0 0 0 0 0 0 0 0 0 0 0 0 0 0 0\n", "0\n2 1\n", 0, &LOOK),
         ("looks\nlooks 0 0 0 0 0 0 0 0 0\nreset\n", "0 0\n1 0\n0\n", 0, &[0xC0]),
+        ("reset\npins 4\npins 80000\ndrive\n", "0\n0\n26\n0 -------------------\n", 0, &[0xC0]),
+        ("read D5 1\npins 7FFFF\n", "5\n0\n", 0, &[0xB5, 0x40]),
     ] {
         let (said, code) = speak_with(&["--record", &file], input);
         assert_eq!((said.as_str(), code), (answers, Some(status)), "{input}");

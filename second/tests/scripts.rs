@@ -6,7 +6,7 @@ use second::console::{Console, LONGEST};
 use second::malformed::{BYTES, ODD, WRONG};
 use second::script::{script, Line};
 use std::collections::{HashMap, HashSet};
-use watched::{counts, Kind};
+use watched::{counts, pins, Kind};
 
 /// The answers to a script.
 fn answers(script: &[Line]) -> Vec<String> {
@@ -40,7 +40,7 @@ fn a_longer_script_begins_with_a_shorter_one() {
 #[test]
 fn every_number_is_given_but_eight_and_nine() {
     let answers = answers(&script(1, 20_000));
-    for number in ["0", "1", "2", "3", "4", "5", "6", "20", "21", "22", "23", "24", "25"] {
+    for number in ["0", "1", "2", "3", "4", "5", "6", "20", "21", "22", "23", "24", "25", "26"] {
         assert!(answers.iter().any(|answer| answer == number), "{number}");
     }
     for number in ["7 no", "0 yes", "0 no", "0 reset", "0 look ", "0 write ", "0 read ", "? "] {
@@ -231,6 +231,76 @@ fn rows_are_hidden_in_a_quarter_of_the_looks() {
             let times = counts[&kind];
             assert!(times >= least, "{kind:?} {times} times with seed {seed}");
         }
+    }
+}
+
+/// How often what is worth watching happens to the pins, at least.
+const PINS: [(pins::Kind, usize); 20] = [
+    (pins::Kind::Sampled, 2000),
+    (pins::Kind::LineRises, 30),
+    (pins::Kind::Falling, 80),
+    (pins::Kind::Many, 2),
+    (pins::Kind::FreedTurns, 20),
+    (pins::Kind::UsedChanges, 500),
+    (pins::Kind::LevelChanges, 30),
+    (pins::Kind::First, 40),
+    (pins::Kind::FirstHigh, 40),
+    (pins::Kind::Declined, 100),
+    (pins::Kind::DeclinedFirst, 20),
+    (pins::Kind::DeclinedChanges, 50),
+    (pins::Kind::TakenPending, 40),
+    (pins::Kind::FreedDrives, 20),
+    (pins::Kind::AgainstTransistor, 15),
+    (pins::Kind::ByTransistor, 15),
+    (pins::Kind::ClearLeaves, 50),
+    (pins::Kind::Clears, 150),
+    (pins::Kind::NoneEnabled, 500),
+    (pins::Kind::EnableRaises, 15),
+];
+
+/// Where runs of pin registers end: what reads and writes can't cross, and where they can't begin.
+const READ_OVER: [u8; 8] = [0x92, 0xB0, 0xC1, 0xC3, 0xC5, 0xD5, 0xDC, 0xE6];
+const WRITTEN_OVER: [u8; 4] = [0xB0, 0xD5, 0xDF, 0xE6];
+const NOT_READ: [u8; 10] = [0x92, 0xB0, 0xC1, 0xC3, 0xC5, 0xD5, 0xDC, 0xDE, 0xDF, 0xE6];
+const NOT_WRITTEN: [u8; 9] = [0x91, 0x92, 0xB0, 0xD5, 0xD6, 0xD9, 0xDB, 0xDF, 0xE6];
+
+#[test]
+fn pins_of_every_kind_occur() {
+    let mut least = PINS.to_vec();
+    least.extend(READ_OVER.map(|gap| (pins::Kind::Crosses(gap, true), 5)));
+    least.extend(WRITTEN_OVER.map(|gap| (pins::Kind::Crosses(gap, false), 2)));
+    least.extend(NOT_READ.map(|gap| (pins::Kind::Unknown(gap, true), 1)));
+    least.extend(NOT_WRITTEN.map(|gap| (pins::Kind::Unknown(gap, false), 1)));
+    for seed in 1..5 {
+        let counts = pins::counts(&script(seed, 60_000));
+        for (kind, least) in &least {
+            let times = counts.get(kind).copied().unwrap_or(0);
+            assert!(times >= *least, "{kind:X?} {times} times with seed {seed}");
+        }
+    }
+}
+
+#[test]
+fn every_interrupt_status_is_read() {
+    for seed in 1..5 {
+        let seen = answers_to(&script(seed, 60_000), "read 91 1");
+        for status in ["00", "01", "40", "41", "80", "81", "C0", "C1"] {
+            assert!(seen.contains(&format!("0 {status}")), "{status} with seed {seed}");
+        }
+    }
+}
+
+#[test]
+fn pins_have_their_share_of_every_script() {
+    for seed in 1..5 {
+        let lines = script(seed, 60_000);
+        let given = numbers(&lines);
+        for (number, least) in [("0", 2000), ("26", 100), ("?", 20)] {
+            let times = given.get(&("pins".to_string(), number.to_string()));
+            assert!(times > Some(&least), "pins gives {number} {times:?} times with seed {seed}");
+        }
+        assert!((400..2500).contains(&count(&lines, "drive")), "seed {seed}");
+        assert!((2500..6000).contains(&count(&lines, "pins")), "seed {seed}");
     }
 }
 

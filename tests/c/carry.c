@@ -150,11 +150,12 @@ static struct panel_call some_call(void)
     static const struct panel_call settings[] = {
         A_WRITE(PANEL_KBDBOUNCE, 2, 2, 0x8C), A_WRITE(PANEL_KBDSIZE, 1, 0x1C), A_WRITE(PANEL_KBDIC, 1, 3), A_WRITE(PANEL_KBDMSK, 1, 0), A_READ(PANEL_KBDCODE0, 4),
         A_READ(PANEL_EVTCODE, 32), A_READ(PANEL_EVTCODE, 2), A_READ(PANEL_KBDIC, 1), A_RESET,
+        A_WRITE(PANEL_GPIODATA1, 2, 0x10, 0x10), A_WRITE(PANEL_GPIODIR0, 3, 0, 0x10, 0), A_READ(PANEL_GPIODIR0, 15), A_READ(PANEL_IRQST, 1),
     };
     struct panel_call call;
     unsigned i;
     if (once_in(3))
-        return settings[below(9)];
+        return settings[below(13)];
     memset(&call, 0, sizeof call);
     call.kind = (uint16_t)(once_in(6) ? PANEL_WRITE : PANEL_LOOK);
     call.first = (uint16_t)(call.kind == PANEL_WRITE ? below(256) : 0);

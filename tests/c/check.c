@@ -68,6 +68,14 @@ void check_line(const struct panel *panel, bool wanted, const char *file, int li
     check_same(yes, wanted, "the answer of the interrupt question", file, line);
 }
 
+void check_drive(const struct panel *panel, uint32_t driven, uint32_t level, const char *file, int line)
+{
+    uint32_t got_driven = ~driven, got_level = ~level;
+    check_same(panel_drive(panel, &got_driven, &got_level), PANEL_DONE, "the number of the question what is driven", file, line);
+    check_same(got_driven, driven, "the pins driven", file, line);
+    check_same(got_level, level, "the levels driven", file, line);
+}
+
 int main(void)
 {
     layout();
@@ -82,6 +90,7 @@ int main(void)
     carry();
     undo();
     picture();
+    pins();
     printf("checks: %u made, %u failed\n", checked, failed);
     return failed ? 1 : 0;
 }

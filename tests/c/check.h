@@ -38,6 +38,10 @@ void check_line(const struct panel *panel, bool wanted, const char *file, int li
 #define HELD(panel, row, col, wanted) check_held((panel), (row), (col), (wanted), __FILE__, __LINE__)
 #define LINE(panel, wanted) check_line((panel), (wanted), __FILE__, __LINE__)
 
+/* The question what is driven is done: these pins, to these levels. */
+void check_drive(const struct panel *panel, uint32_t driven, uint32_t level, const char *file, int line);
+#define DRIVES(panel, driven, level) check_drive((panel), (driven), (level), __FILE__, __LINE__)
+
 /* The groups, a file each. */
 void layout(void);
 void sessions(void);
@@ -51,5 +55,6 @@ void routine(void);
 void carry(void);
 void undo(void);
 void picture(void);
+void pins(void);
 
 #endif

@@ -1,11 +1,14 @@
 /* A declined call gives its number and leaves module and buffer as they were, byte for byte. */
 #include "check.h"
 
-/* A module with something in every field: keys held, runs, codes, flags, marks. */
+/* A module with something in every field: keys held, runs, codes, flags, marks, pins that were sampled and written. */
 static struct panel busy(void)
 {
     struct panel panel = after_reset();
     uint8_t byte;
+    SAME(panel_pins(&panel, 0x2AAAA), 0);
+    SAME(panel_pins(&panel, 0x55555), 0);
+    SAME(WRITE(&panel, PANEL_GPIODATA0, 0x11, 0x22, 0x33, 0x44, 0x55, 0x66, 0x77, 0x88, 0x99), 0);
     SAME(WRITE(&panel, PANEL_KBDBOUNCE, 1, 0x8C), 0);
     SAME(LOOK(&panel, 0x0FFF, 0x0007, 0x1000, 0, 0, 0, 0, 0), 0);
     SAME(LOOK(&panel, 0x0FFE, 0x0007, 0x1000, 0, 0, 0, 0, 0), 0);
@@ -41,6 +44,13 @@ static void read_declined(const struct panel *was, uint8_t first, size_t count, 
     SAME(panel_read(&panel, first, buffer, count), number);
     SO(same_panel(&panel, was));
     SO(memcmp(buffer, kept, sizeof kept) == 0);
+}
+
+static void sample_declined(const struct panel *was, uint32_t sample)
+{
+    struct panel panel = *was;
+    SAME(panel_pins(&panel, sample), PANEL_BAD_PINS);
+    SO(same_panel(&panel, was));
 }
 
 static void held_declined(const struct panel *was, uint8_t row, uint8_t col)
@@ -81,6 +91,14 @@ static void writes(const struct panel *was)
     write_declined(was, 0xFF, bytes, 2, 5);
     write_declined(was, PANEL_KBDBOUNCE, bytes, 2, 6);
     write_declined(was, PANEL_KBDSIZE, bytes + 1, 1, 6);
+    write_declined(was, PANEL_GPIODATA0, bytes, 22, 5);
+    write_declined(was, PANEL_GPIOIE2, bytes, 2, 5);
+    write_declined(was, PANEL_IRQST, bytes, 1, 5);
+    write_declined(was, PANEL_GPIORIS0, bytes, 1, 5);
+    write_declined(was, PANEL_GPIOIC0, bytes, 4, 5);
+    write_declined(was, PANEL_GPIOOME0, bytes, 7, 5);
+    write_declined(was, PANEL_GPIOOME0, bytes, 33, 4);
+    write_declined(was, PANEL_GPIOOME0, bytes, 0, 3);
     bytes[0] = 0x8C;
     write_declined(was, PANEL_KBDSIZE, bytes, 2, 5);
 }
@@ -100,6 +118,24 @@ static void reads(const struct panel *was)
     read_declined(was, 0x0F, 2, 5);
     read_declined(was, 0xFF, 1, 5);
     read_declined(was, 0xFF, 32, 5);
+    read_declined(was, PANEL_IRQST, 2, 5);
+    read_declined(was, PANEL_GPIODATA0, 2, 5);
+    read_declined(was, PANEL_GPIOMASK0, 1, 5);
+    read_declined(was, PANEL_GPIODIR0, 16, 5);
+    read_declined(was, PANEL_GPIOMIS2, 2, 5);
+    read_declined(was, PANEL_GPIOIC0, 1, 5);
+    read_declined(was, PANEL_GPIODIR0, 33, 4);
+    read_declined(was, PANEL_GPIODIR0, 0, 3);
+}
+
+/* 26: every bit above 18. */
+static void samples(const struct panel *was)
+{
+    unsigned bit;
+    for (bit = 19; bit < 32; bit++) {
+        sample_declined(was, 1u << bit);
+        sample_declined(was, 1u << bit | 0x7FFFF);
+    }
 }
 
 /* 7: no such row, no such column. */
@@ -115,11 +151,12 @@ static void questions(const struct panel *was)
 
 static void all(const char *name, const struct panel *was)
 {
-    group("declined, 1 to 7", name);
+    group("declined, 1 to 7 and 26", name);
     looks(was);
     writes(was);
     reads(was);
     questions(was);
+    samples(was);
     group_ends();
 }
 
@@ -128,5 +165,5 @@ void declined(void)
     struct panel fresh = after_reset();
     struct panel panel = busy();
     all("after reset", &fresh);
-    all("with keys, codes, flags and marks", &panel);
+    all("with keys, codes, flags, marks and pins", &panel);
 }

@@ -1,4 +1,4 @@
-/* A number that nobody looks at: with IGNORED defined, each of the twelve calls below is warned of. Reset is always done, and nobody needs to look. */
+/* A number that nobody looks at: with IGNORED defined, each of the fourteen calls below is warned of. Reset is always done, and nobody needs to look. */
 #include "panel.h"
 
 #ifdef IGNORED
@@ -18,6 +18,7 @@ unsigned ignored(struct panel *panel, const uint16_t *samples, uint8_t *byte, bo
 {
     unsigned all = 0;
     uint64_t done;
+    uint32_t driven, level;
     panel_reset(panel);
     LOOKED(panel_look(panel, samples, PANEL_ROWS));
     LOOKED(panel_looks(panel, samples, PANEL_ROWS, &done));
@@ -25,6 +26,8 @@ unsigned ignored(struct panel *panel, const uint16_t *samples, uint8_t *byte, bo
     LOOKED(panel_read(panel, PANEL_EVTCODE, byte, 1));
     LOOKED(panel_held(panel, panel_row(0), panel_col(0), yes));
     LOOKED(panel_interrupt(panel, yes));
+    LOOKED(panel_pins(panel, 0));
+    LOOKED(panel_drive(panel, &driven, &level));
     return all;
 }
 

@@ -3,7 +3,8 @@
 
 /* Where the archive keeps each field; written out here, so that a slip in the header is seen. */
 enum place { HELD_AT = 0, RUN_AT = 104, QUEUE_AT = 208, COUNT_AT = 223, BOUNCE_AT = 224, SIZE_AT = 225, MASK_AT = 226, RSINT_AT = 227,
-             RKLINT_AT = 228, RELINT_AT = 229, PORIRQ_AT = 230, SEEN_AT = 231, END = 235 };
+             RKLINT_AT = 228, RELINT_AT = 229, PORIRQ_AT = 230, SEEN_AT = 231, KEPT_AT = 235, EDGE_AT = 268, LEVEL_AT = 287,
+             SAMPLED_AT = 306, END = 307 };
 
 struct after_a_byte {
     char byte;
@@ -27,6 +28,11 @@ static void told_by_the_compiler(void)
     SAME(offsetof(struct panel, relint), RELINT_AT);
     SAME(offsetof(struct panel, porirq), PORIRQ_AT);
     SAME(offsetof(struct panel, seen), SEEN_AT);
+    SAME(offsetof(struct panel, pins) + offsetof(struct panel_pins, kept), KEPT_AT);
+    SAME(offsetof(struct panel, pins) + offsetof(struct panel_pins, edge), EDGE_AT);
+    SAME(offsetof(struct panel, pins) + offsetof(struct panel_pins, level), LEVEL_AT);
+    SAME(offsetof(struct panel, pins) + offsetof(struct panel_pins, sampled), SAMPLED_AT);
+    SAME(sizeof(struct panel_pins), END - KEPT_AT);
     SAME(offsetof(struct panel_done, number), END);
     SAME(sizeof(struct panel_call), 70);
     SAME(offsetof(struct panel_call, values), 6);
@@ -69,6 +75,13 @@ static void image_after_reset(void)
     image[SIZE_AT] = 0x22;
     image[MASK_AT] = 0x03;
     image[PORIRQ_AT] = 1;
+    memset(image + KEPT_AT, 0xAA, 2);
+    memset(image + KEPT_AT + 2, 0x55, 2);
+    image[KEPT_AT + 4] = 0x15;
+    image[KEPT_AT + 5] = 0x5A;
+    image[KEPT_AT + 14] = 0x08;
+    memset(image + KEPT_AT + 21, 0xFF, 3);
+    image[KEPT_AT + 31] = 0x08;
 }
 
 static bool is_image(const struct panel *panel)
@@ -169,6 +182,45 @@ static void places_seen(void)
     group_ends();
 }
 
+/* The pins' registers, each written and found in its own byte, and in no other. */
+static void registers_seen(void)
+{
+    group("layout seen through calls", "the registers of the pins");
+    static const uint8_t first[3] = {0xAA, 0xC0, 0xE0}, count[3] = {6, 21, 6};
+    struct panel panel = after_reset();
+    unsigned part, i, at = KEPT_AT;
+    image_after_reset();
+    for (part = 0; part < 3; part++) {
+        for (i = 0; i < count[part]; i++, at++) {
+            SAME(WRITE(&panel, (uint8_t)(first[part] + i), (uint8_t)at), 0);
+            image[at] = (uint8_t)at;
+            SO(is_image(&panel));
+        }
+    }
+    SAME(at, EDGE_AT);
+    group_ends();
+}
+
+/* A pin's level, that a sample came, and its edge. */
+static void samples_seen(void)
+{
+    group("layout seen through calls", "the pins' samples and edges");
+    struct panel panel;
+    unsigned pin;
+    for (pin = 0; pin < 19; pin++) {
+        panel = after_reset();
+        image_after_reset();
+        SAME(panel_pins(&panel, 0), 0);
+        image[SAMPLED_AT] = 1;
+        SO(is_image(&panel));
+        SAME(panel_pins(&panel, 1u << pin), 0);
+        image[LEVEL_AT + pin] = 1;
+        image[EDGE_AT + pin] = pin != 0 && pin != 1 && pin != 8 && pin != 9;
+        SO(is_image(&panel));
+    }
+    group_ends();
+}
+
 /* Reset: the struct that it fills, the number, and the pointer that comes back; the bytes around stay. */
 static void reset_seen(void)
 {
@@ -190,6 +242,7 @@ static void answers_seen(void)
     group("layout seen through calls", "answers");
     struct panel panel = after_reset(), was;
     bool room[3] = {true, true, true};
+    uint32_t words[6] = {1, 2, 3, 4, 5, 6};
     SAME(WRITE(&panel, PANEL_KBDBOUNCE, 1), 0);
     SAME(LOOK(&panel, 0, 0x0002, 0, 0, 0, 0, 0, 0), 0);
     was = panel;
@@ -201,6 +254,8 @@ static void answers_seen(void)
     SO(memcmp(room, "\1\0\1", 3) == 0);
     SAME(panel_interrupt(&panel, room + 1), 0);
     SO(memcmp(room, "\1\1\1", 3) == 0);
+    SAME(panel_drive(&panel, words + 1, words + 4), 0);
+    SO(words[0] == 1 && words[1] == 0 && words[2] == 3 && words[3] == 4 && words[4] == 0 && words[5] == 6);
     SO(same_panel(&panel, &was));
     group_ends();
 }
@@ -213,6 +268,8 @@ void layout(void)
     keys_seen();
     marks_seen();
     places_seen();
+    registers_seen();
+    samples_seen();
     reset_seen();
     answers_seen();
 }

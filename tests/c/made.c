@@ -54,8 +54,18 @@ const struct state sound[] = {
     {"special function key held with a run of 254", {HELD_KEY(0, 0), HELD_KEY(0, 12), RUN_OF(0, 12, 254)}},
 };
 
+const struct state other_pins[] = {
+    {"pins of zeros", {PIN(kept, 0, 72, 0)}},
+    {"every kept byte FF", {PIN(kept, 0, 33, 0xFF)}},
+    {"every edge pending, no sample", {PIN(edge, 0, 19, 1)}},
+    {"every level 1, no sample", {PIN(level, 0, 19, 1)}},
+    {"edges of pins 0, 1, 8 and 9, a sample", {PIN(edge, 0, 2, 1), PIN(edge, 8, 2, 1), PIN(sampled, 0, 1, 1)}},
+    {"every edge, every level, a sample, every byte FF", {PIN(kept, 0, 33, 0xFF), PIN(edge, 0, 39, 1)}},
+};
+
 const size_t unsound_count = sizeof unsound / sizeof unsound[0];
 const size_t sound_count = sizeof sound / sizeof sound[0];
+const size_t other_pins_count = sizeof other_pins / sizeof other_pins[0];
 
 struct panel made(const struct state *state)
 {

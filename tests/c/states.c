@@ -39,12 +39,27 @@ static void questions_give(const struct panel *was, uint8_t row, unsigned number
     SO(number == 0 || (!held && !line));
 }
 
+/* Of the pins: a sample, and the question what is driven, which is nothing where it is declined. */
+static void pins_give(const struct panel *was, uint32_t sample, unsigned number)
+{
+    struct panel panel = *was;
+    uint32_t driven = 0xA5A5A5A5, level = 0x5A5A5A5A;
+    SAME(panel_drive(&panel, &driven, &level), number);
+    SO(same_panel(&panel, was));
+    SO(number == 0 || (driven == 0 && level == 0));
+    SAME(panel_pins(&panel, sample), number);
+    SO(number == 0 || same_panel(&panel, was));
+}
+
 static void all_give(const struct panel *panel, unsigned number)
 {
     look_gives(panel, 8, number);
     write_gives(panel, PANEL_KBDBOUNCE, 1, number);
     read_gives(panel, PANEL_EVTCODE, 1, number);
+    write_gives(panel, PANEL_GPIODATA0, 21, number);
+    read_gives(panel, PANEL_GPIODIR0, 15, number);
     questions_give(panel, 0, number);
+    pins_give(panel, 0x7FFFF, number);
 }
 
 static void unsound_ones(void)
@@ -60,20 +75,23 @@ static void unsound_ones(void)
         write_gives(&panel, 0xFF, 0, 8);
         read_gives(&panel, PANEL_EVTCODE, 0, 8);
         read_gives(&panel, PANEL_EVTCODE, 33, 8);
+        write_gives(&panel, PANEL_GPIORIS0, 1, 8);
+        read_gives(&panel, PANEL_GPIODATA0, 2, 8);
         questions_give(&panel, 8, 8);
+        pins_give(&panel, 0xFFFFFFFF, 8);
         SAME(panel_reset(&panel), 0);
         all_give(&panel, 0);
         group_ends();
     }
 }
 
-static void sound_ones(void)
+static void sound_ones(const struct state *states, size_t count)
 {
     struct panel panel;
     size_t i;
-    for (i = 0; i < sound_count; i++) {
-        panel = made(&sound[i]);
-        group("sound, served", sound[i].name);
+    for (i = 0; i < count; i++) {
+        panel = made(&states[i]);
+        group("sound, served", states[i].name);
         all_give(&panel, 0);
         group_ends();
     }
@@ -132,7 +150,8 @@ static void marks_left(void)
 void states(void)
 {
     unsound_ones();
-    sound_ones();
+    sound_ones(sound, sound_count);
+    sound_ones(other_pins, other_pins_count);
     longest_run();
     full_queue();
     marks_left();

@@ -6,7 +6,7 @@ second=${SECOND:-$(.ci/second)} || failed "no second module"
 longest=1048576
 
 # ask: what can be seen of a panel, asked for.
-ask() { printf '%s\n' show 'held 0 1' irq 'wait 1' 'read 10 15' 'read 0B 4' 'read 02 2' show; }
+ask() { printf '%s\n' show 'held 0 1' irq drive 'wait 1' 'read 10 15' 'read 0B 4' 'read 02 2' 'read C6 15' 'read 91 1' show; }
 
 # size FILE NUMBER: it has so many bytes.
 size() { [ "$(wc -c <"$1")" -eq "$2" ] || failed "$1 has other than $2 bytes"; }
@@ -16,6 +16,7 @@ session() {
     printf '%s\n' 'write 02 02' 'look 0 2 0 0 0 0 0 0' 'press 0 1' 'look 0' 'look 0 0 0 0 0 0 0 2000' 'read 10 2' 'read 0F 1' 'read 10 33' 'read 10 0' 'write 03 99'
     printf '%s\n' 'looks 0 2 0 0 0 0 0 0 3 0 0 0 0 0 0 0' 'looks 1 2 0 0 0 0 0 0 1 2 0 0 0 0 0 2000 0 0 0 0 0 0 0 0' 'wait 1' 'looks 0 0 0' 'looks'
     printf '%s\n' 'held 0 1' 'irq' 'show' 'pack 9 reset' 'unpack F0' 'play 00' 'wait 3' 'release 0 1' 'rest' 'press 1 SF'
+    printf '%s\n' 'write C6 30' 'write C0 20 30' 'write C1' 'write D5 01' 'read C1 1' 'write D2 08' 'read D6 6' 'drive'
 }
 
 # A session recorded is, played, the same panel with the same contacts; its file is the second module's, byte for byte.
@@ -27,6 +28,21 @@ see_recorded() {
     session | "$second" --record "$work/second" >/dev/null
     cmp -s "$work/session" "$work/second" || failed "a recording is other than the second module's"
     seen "a session recorded and played goes on as if it had not ended"
+}
+
+# Samples of the pins are left out of a recording, done or declined, and accesses to their registers are not. So is the question what is driven.
+see_pins() {
+    printf '%s\n' 'write C6 20' 'write C0 20 20' 'read D6 3' 'write DC FF' >"$work/less"
+    printf '%s\n' 'write C6 20' 'pins 0' 'write C0 20 20' 'drive' 'pins 40' 'pins 80000' 'read D6 3' 'pins 1 1' 'write DC FF' 'pins 0' >"$work/pins"
+    gives 0 ./panel --record "$work/one" <"$work/less"
+    gives 1 ./panel --record "$work/other" <"$work/pins"
+    says out '0 40 00 00'
+    cmp -s "$work/one" "$work/other" || failed "samples of the pins are recorded"
+    "$second" --record "$work/second" <"$work/pins" >/dev/null
+    cmp -s "$work/one" "$work/second" || failed "accesses to the pins' registers are recorded otherwise than by the second module"
+    printf 'drive\nread D6 3\n' | ./panel --play "$work/one" >"$work/out"
+    printf '0 -----1-------------\n0 00 00 00\n' | cmp -s - "$work/out" || failed "a lamp isn't lit by a recording, or an edge is there"
+    seen "a recording has accesses to the pins' registers, and no samples of the pins"
 }
 
 # block NAME BETWEEN: the longest block that a line holds, 1,023 looks, each sample one digit; the name comes first, and the words between its looks.
@@ -161,6 +177,7 @@ see_files_typed() {
 }
 
 see_recorded
+see_pins
 see_block
 see_both
 see_declined

@@ -80,20 +80,20 @@ read-last m a [] r o b h l er eb = absurd (omega arith)
 read-last m a (y ∷ []) r o b h l er eb = rw (eb .0, eb .1, er) (refl, refl)
 read-last m a (y ∷ z ∷ x) r o b h l er eb = absurd (omega arith)
 
-abbrev rest : List ℕ → ℕ → List ℕ
+abbrev pub rest : List ℕ → ℕ → List ℕ
 rest x b = take (length (set x 0 b) - 1) (drop 1 (set x 0 b))
 
-abbrev back : List ℕ → ℕ → List ℕ → List ℕ
+abbrev pub back : List ℕ → ℕ → List ℕ → List ℕ
 back x b e = putMid 1 (length (set x 0 b) - 1) (set x 0 b) e
 
 pub back-length : (x : List ℕ) (b : ℕ) (e : List ℕ) → length e ≡ length (rest x b) → length (back x b e) ≡ length x
 back-length x b e h = same-len-mid 1 (length (set x 0 b) - 1) (set x 0 b) e h ∙ length-set x 0 b
 
 module _ (x : List ℕ) (b : ℕ) (h : 1 ≤ length x) where
-  rest-length : length (rest x b) ≡ length x - 1
+  pub rest-length : length (rest x b) ≡ length x - 1
   rest-length = simp (length-take, length-drop, length-set) (omega arith)
 
-  back-is : (e : List ℕ) → back x b e ≡ b ∷ e
+  pub back-is : (e : List ℕ) → back x b e ≡ b ∷ e
   back-is e = go x h
     where
       gone : (y : List ℕ) → drop (suc (length y) - 1) y ≡ []

@@ -6,13 +6,15 @@
 --
 -- A register that can't be accessed so never comes here: a written byte then changes nothing, and a byte read is 0.
 use Prim.Native.Nat.{ℕ, _%_}
-use Rattle.words.specs.Words.{without}
+use lib.Dec.{eqb}
+use Rattle.words.specs.Words.{_if_, _else_, without}
+use Rattle.pins.specs.Pins as pins
 use Rattle.registers.specs.declared.Register.{Register}
-use Rattle.registers.specs.declared.Register.the-variants.{KBDBOUNCE, KBDSIZE, KBDRIS, KBDMIS, KBDIC, KBDMSK, KBDCODE, EVTCODE, RSTINTCLR, Unknown}
+use Rattle.registers.specs.declared.Register.the-variants.{KBDBOUNCE, KBDSIZE, KBDRIS, KBDMIS, KBDIC, KBDMSK, KBDCODE, EVTCODE, RSTINTCLR, PIN, Unknown}
 use Rattle.state.specs.declared.Module.{Module}
-use Rattle.state.specs.Module.{restarted, queueOf, withQueue, withBounce, withMask, withRsint, withRklint, withRelint, withPorirq}
+use Rattle.state.specs.Module.{restarted, queueOf, withQueue, withBounce, withMask, withRsint, withRklint, withRelint, withPorirq, withPins}
 use Rattle.state.specs.Queue.{oldest, taken}
-use Rattle.flags.specs.Flags.{ris, mis}
+use Rattle.flags.specs.Flags.{ris, mis, irqst}
 use Rattle.picture.specs.Picture.{picture, marked}
 
 unfoldable pub written : Module → Register → ℕ → Module
@@ -26,6 +28,8 @@ written m KBDIC b = withRelint (withRklint (withRsint m (without 0 (m .rsint) b)
 written m KBDMSK b = withMask m (b % 16)
 -- "bit 0 clears PORIRQ; other bits ignored"
 written m RSTINTCLR b = withPorirq m (without 0 (m .porirq) b)
+-- document 02, E6: "a write to its bits is kept"
+written m (PIN a) b = withPins m (pins.written (m .pins) a b)
 written m KBDRIS b = m
 written m KBDMIS b = m
 written m (KBDCODE n) b = m
@@ -43,6 +47,7 @@ byteOf m KBDMSK = m .mask
 byteOf m (KBDCODE n) = picture n (m .held)
 -- "oldest waiting code, which is taken out; 0x7F when none waits"
 byteOf m EVTCODE = oldest (queueOf m)
+byteOf m (PIN a) = irqst m if eqb a 0x91 else pins.byteOf (m .pins) (m .size) a
 byteOf m KBDIC = 0
 byteOf m RSTINTCLR = 0
 byteOf m Unknown = 0
@@ -58,4 +63,5 @@ readOut m KBDMIS = m
 readOut m KBDIC = m
 readOut m KBDMSK = m
 readOut m RSTINTCLR = m
+readOut m (PIN a) = m
 readOut m Unknown = m

@@ -23,4 +23,5 @@ lent m held shown places count rsint seen =
       relint = shown .relint;
       porirq = m .porirq;
       seen = seen;
+      pins = m .pins;
     }

@@ -1,3 +1,4 @@
 pub mod Bytes
 pub mod Accesses
 pub mod Lent
+pub mod Pins

@@ -2,6 +2,9 @@
 use keys::KEYS;
 use keys::NO_CODE;
 use picture::MASKS;
+use pins::KEPT;
+use pins::PINS;
+use registers::IRQST;
 use registers::KBDCODE0;
 use registers::Register;
 use state::Module;
@@ -10,12 +13,18 @@ ghost use Prim.Native.Nat.{_+_, _≤_};
 ghost use mathlib.Core.Path.{_≡_};
 ghost use lib.ListN.{length};
 ghost use Rattle.words.specs.Words.{table};
+ghost use mathlib.Core.Bool.{true, false};
+ghost use Rattle.registers.specs.declared.Access.the-variants as way;
+ghost use Rattle.registers.specs.declared.Register.the-variants.{PIN};
+ghost use Rattle.registers.specs.Registers.{_is_};
+ghost use Rattle.registers.specs.Runs.{runAllowed};
 ghost use Rattle.state.specs.Module.{queue, withQueue, withRsint, withSeen};
 ghost use Rattle.picture.specs.Picture.{heldCodes};
 ghost use Rattle.picture.specs.Masks.{byMasks};
 ghost use Rattle.access.specs.Bytes as byte;
 ghost use Rattle.access.specs.Accesses.{bytesRead, readAll, wrote};
 ghost use Rattle.access.specs.Lent.{lent};
+ghost use Rattle.access.specs.Pins.{along, items, keptRun, pinByte};
 
 // What a read shows and leaves as it is.
 struct Shown {
@@ -55,6 +64,11 @@ fn written(m: Module, register: Register, b: u8) -> Module
             next.porirq = flags::cleared(m.porirq, 0, b);
             next
         }
+        Register::PIN(address) => {
+            let pins = pins::written(m.pins, address, b);
+            next.pins = pins;
+            next
+        }
         Register::Unknown => m,
     }
 }
@@ -74,7 +88,7 @@ pub fn wrote(m: Module, first: u16, bytes: &[u8]) -> Module
     after
 }
 
-// The byte that a read of a register gives, and what it does to the parts lent.
+// The byte that a read of a keypad's register gives, and what it does to the parts lent.
 fn read_byte(
     held: &[bool; KEYS],
     shown: Shown,
@@ -84,6 +98,7 @@ fn read_byte(
     seen: &mut [bool; 4],
     register: Register,
 ) -> u8
+    requires { ⌜ (register is PIN 0x91) ≡ false ⌝ }
     ensures { λ r. ⌜ ((m : Module) →
         let before = lent m (now (held .entry)) shown (now (places .entry)) (now (count .entry)) (now (rsint .entry)) (now (seen .entry)) in
         let after = lent m (now (held .entry)) shown (now (places .exit)) (now (count .exit)) (now (rsint .exit)) (now (seen .exit)) in
@@ -103,6 +118,7 @@ fn read_byte(
         }
         Register::EVTCODE => state::queue::take_oldest(places, count),
         Register::RSTINTCLR => 0,
+        Register::PIN(_) => 0,
         Register::Unknown => 0,
     }
 }
@@ -164,6 +180,7 @@ fn fill_from(
     first: u16,
     out: &mut [u8],
 )
+    requires { ⌜ first + length (now out) ≤ 0x91 ⌝ }
     ensures { λ _. ⌜ ((m : Module) →
         let before = lent m (now (held .entry)) shown (now (places .entry)) (now (count .entry)) (now (rsint .entry)) (now (seen .entry)) in
         let after = lent m (now (held .entry)) shown (now (places .exit)) (now (count .exit)) (now (rsint .exit)) (now (seen .exit)) in
@@ -201,8 +218,9 @@ fn fill_codes(m: Module, out: &mut [u8]) -> Module
     after
 }
 
-// The buffer is filled from any registers: what a read may alter of the state is lent, and put back.
+// The buffer is filled from the keypad's registers: what a read may alter of the state is lent, and put back.
 fn fill_bytes(m: Module, first: u16, out: &mut [u8]) -> Module
+    requires { ⌜ first + length (now out) ≤ 0x91 ⌝ }
     ensures { λ r. ⌜ (r ≡ readAll m first (length (now (out .entry)))) × (now (out .exit) ≡ bytesRead m first (length (now (out .entry)))) ⌝ }
 {
     let shown = Shown {
@@ -251,8 +269,114 @@ fn fill_picture(m: Module, n: u8, out: &mut [u8]) -> Module
     after
 }
 
-// The buffer is filled by a read. EVTCODE's address stays, and the picture's masks serve all of its bytes, so a read there has a rule of its own, which takes less stack.
+// Bytes that are at hand, from a place on: one goes to the buffer's first place, and the rest of the buffer is filled by the same rule.
+fn give(from: &[u8; KEPT], at: usize, out: &mut [u8])
+    requires { ⌜ at + length (now out) ≤ 33 ⌝ }
+    ensures { λ _. ⌜ now (out .exit) ≡ items (now (from .entry)) at (length (now (out .entry))) ⌝ }
+{
+    if out.len() < 1 {
+        return;
+    }
+    out[0] = from[at];
+    give(from, at + 1, &mut out[1..]);
+}
+
+// The byte that a read of the pins' register at an address gives, IRQST among them.
+fn pin_byte(
+    kept: &[u8; KEPT],
+    edge: &[bool; PINS],
+    level: &[bool; PINS],
+    size: u8,
+    porirq: bool,
+    mis: u8,
+    address: u16,
+) -> u8
+    ensures { λ r. ⌜ r ≡ pinByte (now (kept .entry)) (now (edge .entry)) (now (level .entry)) size porirq mis address ⌝ }
+{
+    if address == IRQST {
+        return flags::irqst(porirq, mis, pins::is_raised(kept, edge));
+    }
+    pins::byte(kept, edge, level, size, address)
+}
+
+// The pins' registers, byte for byte: one is read into the buffer's first place, and the rest of the buffer is filled by the same rule.
+fn fill_each(
+    kept: &[u8; KEPT],
+    edge: &[bool; PINS],
+    level: &[bool; PINS],
+    size: u8,
+    porirq: bool,
+    mis: u8,
+    first: u16,
+    out: &mut [u8],
+)
+    ensures { λ _. ⌜ now (out .exit) ≡ along (pinByte (now (kept .entry)) (now (edge .entry)) (now (level .entry)) size porirq mis) first (length (now (out .entry))) ⌝ }
+{
+    if out.len() < 1 {
+        return;
+    }
+    out[0] = pin_byte(kept, edge, level, size, porirq, mis, first);
+    let next = registers::next_address(first);
+    fill_each(kept, edge, level, size, porirq, mis, next, &mut out[1..]);
+}
+
+// Do so many bytes from this address on all read as they are kept?
+fn is_kept_run(first: u16, count: usize) -> bool
+    ensures { λ r. ⌜ r ≡ keptRun first count ⌝ }
+{
+    if registers::is_run_in(0xAA, 0xB0, first, count) {
+        return true;
+    }
+    if registers::is_run_in(0xC6, 0xD5, first, count) {
+        return true;
+    }
+    registers::is_run_in(0xE0, 0xE6, first, count)
+}
+
+// The pins' registers. Those that read as they are kept, and GPIORIS with GPIOMIS, are at hand, and a long read of them takes less stack.
+fn fill_lent(
+    kept: &[u8; KEPT],
+    edge: &[bool; PINS],
+    level: &[bool; PINS],
+    size: u8,
+    porirq: bool,
+    mis: u8,
+    first: u16,
+    out: &mut [u8],
+)
+    ensures { λ _. ⌜ now (out .exit) ≡ along (pinByte (now (kept .entry)) (now (edge .entry)) (now (level .entry)) size porirq mis) first (length (now (out .entry))) ⌝ }
+{
+    if is_kept_run(first, out.len()) {
+        give(kept, pins::place(first), out);
+        return;
+    }
+    if registers::is_run_in(0xD6, 0xDC, first, out.len()) {
+        let edges = pins::edges(kept, edge, level, size);
+        give(&edges, (first - 0xD6) as usize, out);
+        return;
+    }
+    fill_each(kept, edge, level, size, porirq, mis, first, out);
+}
+
+// The buffer is filled from the pins' registers: what a read shows of the state is lent.
+fn fill_pins(m: Module, first: u16, out: &mut [u8]) -> Module
+    requires { ⌜ 0x91 ≤ first ⌝ }
+    ensures { λ r. ⌜ (r ≡ readAll m first (length (now (out .entry)))) × (now (out .exit) ≡ bytesRead m first (length (now (out .entry)))) ⌝ }
+{
+    let pins = m.pins;
+    let kept = pins.kept;
+    let edge = pins.edge;
+    let level = pins::newest(pins);
+    let mis = flags::mis(m.relint, m.count, m.rklint, m.rsint, m.mask);
+    fill_lent(&kept, &edge, &level, m.size, m.porirq, mis, first, out);
+    let mut after = m;
+    after.pins = pins;
+    after
+}
+
+// The buffer is filled by a read that may be done. EVTCODE's address stays, the picture's masks serve all of its bytes, and the pins' registers share no run with the keypad's, so a read there has a rule of its own, which takes less stack.
 pub fn fill(m: Module, first: u16, out: &mut [u8]) -> Module
+    requires { ⌜ runAllowed way.Read first (length (now out)) ≡ true ⌝ }
     ensures { λ r. ⌜ (r ≡ readAll m first (length (now (out .entry)))) × (now (out .exit) ≡ bytesRead m first (length (now (out .entry)))) ⌝ }
 {
     if registers::stays(first) {
@@ -260,6 +384,9 @@ pub fn fill(m: Module, first: u16, out: &mut [u8]) -> Module
     }
     if registers::is_picture_run(first, out.len()) {
         return fill_picture(m, (first - KBDCODE0) as u8, out);
+    }
+    if IRQST <= first {
+        return fill_pins(m, first, out);
     }
     fill_bytes(m, first, out)
 }

@@ -1,5 +1,6 @@
 // The panel drawn for a person.
 use crate::out;
+use crate::spare;
 use keys::COLS;
 use keys::Col;
 use keys::KEYS;
@@ -141,25 +142,25 @@ fn masked(p: Page, m: Module) -> Page {
     out::hex(p, b"\nKBDMIS ", mis)
 }
 
-// The settings, and the power-on interrupt.
+// The settings.
 fn settings(p: Page, m: Module) -> Page {
     let bounce = out::hex(p, b"\nKBDBOUNCE ", m.bounce);
     let size = out::hex(bounce, b", KBDSIZE ", m.size);
-    let mask = out::hex(size, b", KBDMSK ", m.mask);
-    flag(mask, b"\nPORIRQ ", m.porirq)
+    out::hex(size, b", KBDMSK ", m.mask)
 }
 
-// How the interrupt line is.
-fn level(p: Page, asserted: bool) -> Page
+// The power-on interrupt, and how the interrupt line is.
+fn level(p: Page, porirq: bool, asserted: bool) -> Page
     ensures { λ r. ⌜ r .at ≤ 256 ⌝ }
 {
+    let page = flag(p, b"\nPORIRQ ", porirq);
     if asserted {
-        return out::text(p, b", interrupt line asserted\n.\n");
+        return out::text(page, b", interrupt line asserted\n.\n");
     }
-    out::text(p, b", interrupt line not asserted\n.\n")
+    out::text(page, b", interrupt line not asserted\n.\n")
 }
 
-// The panel: keys, codes, registers, flags and line; the last line is a full stop.
+// The panel: keys, codes, registers, flags, pins and line; the last line is a full stop.
 pub fn show(p: Page, m: Module) -> Page
     ensures { λ r. ⌜ r .at ≤ 256 ⌝ }
 {
@@ -167,5 +168,6 @@ pub fn show(p: Page, m: Module) -> Page
     let run = m.run;
     let queue = m.queue;
     let waiting = codes(grid(p, &held, &run, m.size), queue, m.count);
-    level(settings(masked(raw(waiting, m), m), m), flags::line(m))
+    let set = settings(masked(raw(waiting, m), m), m);
+    level(spare::drawn(set, m), m.porirq, flags::line(m))
 }

@@ -19,6 +19,8 @@ pub fn commands(p: Page) -> Page
         read AA COUNT      a read access: COUNT bytes of the registers from address AA on\n\
         held ROW COL       is this key held?\n\
         irq                is the interrupt line asserted?\n\
+        pins SAMPLE        the spare pins are sampled: bit i is pin i, 0 to 18; no packed list and no recording has it\n\
+        drive              which pins are driven: 0 or 1 for each from pin 0 on, - if it isn't\n\
         pack ROOM CALL ..  the calls, with ; between them, as a packed list for a buffer of ROOM bytes\n\
         unpack HEX..       the calls of a packed list\n\
         play HEX..         the panel is reset and makes the calls of a packed list\n\
@@ -26,7 +28,7 @@ pub fn commands(p: Page) -> Page
         groups RULE TRIM C0 ..       all undo groups of a list of codes\n\
         fetch RULE TRIM PLACE C0 ..  the codes of the group that begins at a place\n\
         undo TRIM [: C0 ..]          the undo groups of the codes fetched since the last restart, or of a list, drawn\n\
-        show               the panel drawn: # held, . open, + and - while the contact settles\n\
+        show               the panel drawn: # held, . open, + and - while the contact settles; pins: r row, c column, > output, < input, # an edge, IE its enable\n\
         help               this list; help numbers lists what a call can answer\n\
         quit               ends the input\n\
         Samples, addresses, bytes and codes are hexadecimal; counts, rows, columns, rules and places are decimal; COL is 0 to 11, 12 or SF.\n\
@@ -50,13 +52,14 @@ pub fn numbers(p: Page) -> Page
         5  access: some address of the run is unknown, or can't be read or written as asked\n\
         6  write: a byte for KBDSIZE isn't acceptable\n\
         7  held question: row above 7 or column above 12\n\
-        8  look, access, question: the panel's state is unsound; never after a reset\n\
+        8  look, access, pins, question: the panel's state is unsound; never after a reset\n\
         20 packed list: cut short or padded wrongly\n\
         21 packed list: no room\n\
         22 undo groups: the place is beyond the end\n\
         23 undo groups: the trim key's code is no press of a key, or some code no press or release of one\n\
         24 undo groups: a press of a key that is down, or a release of one that is up\n\
         25 undo groups: the place is inside a group, or past the start of an open one\n\
+        26 pins: some bit above 18 is set\n\
         9 was given by no call, is retired and gets no new use.\n\
         .\n",
     )

@@ -5,3 +5,4 @@ pub mod groups;
 pub mod help;
 pub mod out;
 pub mod refusal;
+pub mod spare;

@@ -6,7 +6,8 @@ use text::page::least;
 ghost use Prim.Native.Nat.{_≤_};
 
 // What is wanted of a word: a sample; an address or a byte; how many bytes to read; a row or a column that is asked for; the row and the column of a contact;
-// how many looks to make; the bytes of a buffer; the digits of a packed list; a code; by which rule and at which place a list of codes is cut.
+// how many looks to make; the bytes of a buffer; the digits of a packed list; a code; by which rule and at which place a list of codes is cut;
+// a sample of the pins.
 pub enum Kind {
     Sample,
     Byte,
@@ -20,6 +21,7 @@ pub enum Kind {
     Code,
     Rule,
     Place,
+    Pins,
 }
 
 // What is wrong, the word that is, by its places, and what was wanted of it.
@@ -79,6 +81,7 @@ fn not_a_number(p: Page, kind: Kind) -> Page {
         Kind::Byte => out::text(p, b"? not a hexadecimal number: "),
         Kind::Packed => out::text(p, b"? not a hexadecimal number: "),
         Kind::Code => out::text(p, b"? not a hexadecimal number: "),
+        Kind::Pins => out::text(p, b"? not a hexadecimal number: "),
         _ => out::text(p, b"? not a decimal number: "),
     }
 }
@@ -98,6 +101,7 @@ fn digits_wanted(p: Page, kind: Kind) -> Page
         Kind::Code => out::text(p, b" (codes are hexadecimal)\n"),
         Kind::Rule => out::text(p, b" (rules and places are decimal)\n"),
         Kind::Place => out::text(p, b" (rules and places are decimal)\n"),
+        Kind::Pins => out::text(p, b" (pin samples are hexadecimal)\n"),
         _ => out::text(p, b" (rows and columns are decimal)\n"),
     }
 }
@@ -126,6 +130,7 @@ fn range_wanted(p: Page, kind: Kind) -> Page
         Kind::Looks => out::text(p, b" (65535 at most)\n"),
         Kind::Code => out::text(p, b" (a code is at most FF)\n"),
         Kind::Rule => out::text(p, b" (rule 1 is the only one)\n"),
+        Kind::Pins => out::text(p, b" (a pin sample is at most FFFFFFFF)\n"),
         _ => out::text(p, b" (999999 at most)\n"),
     }
 }

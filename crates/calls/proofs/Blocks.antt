@@ -23,6 +23,8 @@ use Rattle.judge.specs.Lines.{sampleLines}
 use Rattle.state.specs.declared.Module.{Module}
 use Rattle.sound.specs.Sound.{sound}
 use Rattle.scan.specs.Scan.{looked}
+use Rattle.pins.specs.declared.Pins.{Pins}
+use Rattle.pins.specs.Pins.{fresh}
 use Rattle.scan.specs.Walk.{Altered, whole, LookedOn}
 use Rattle.calls.specs.declared.Block.{Block}
 use Rattle.calls.specs.Calls.{lookLines, lookNumber, outcome, lookCall}
@@ -107,40 +109,40 @@ left-none n m s = let f : n - n ≡ 0 = omega arith in ap (λ (j : ℕ). later n
 module _ (d size : ℕ) (s : List ℕ) (n : ℕ) (a : Altered) where
   -- so many looks are done, of n, and have made b of a
   pub record Walked (b : Altered) (k : ℕ) : Type 0 where
-    pub kept : Judged (whole d size b 0 false)
-    pub same : (mask : ℕ) (porirq : Bool) → sound (whole d size a mask porirq) ≡ true
-        → (sound (whole d size b mask porirq) ≡ true) × (singles n (whole d size a mask porirq) s ≡ left n (whole d size b mask porirq) s k)
+    pub kept : Judged (whole d size b 0 false fresh)
+    pub same : (mask : ℕ) (porirq : Bool) (pins : Pins) → sound (whole d size a mask porirq pins) ≡ true
+        → (sound (whole d size b mask porirq pins) ≡ true) × (singles n (whole d size a mask porirq pins) s ≡ left n (whole d size b mask porirq pins) s k)
 
-  pub walked-none : Judged (whole d size a 0 false) → Walked a 0
-  walked-none j = record { kept = j; same = λ mask porirq ok. (ok, left-all n (whole d size a mask porirq) s) }
+  pub walked-none : Judged (whole d size a 0 false fresh) → Walked a 0
+  walked-none j = record { kept = j; same = λ mask porirq pins ok. (ok, left-all n (whole d size a mask porirq pins) s) }
 
   module _ (b : Altered) (k : ℕ) (h : k < n) (w : Walked b k) (t : List ℕ) (e : t ≡ take 8 (drop (8 * k) s)) where
     -- the same module with another mask and PORIRQ, if it is sound with these
-    judged : (mask : ℕ) (porirq : Bool) → sound (whole d size b mask porirq) ≡ true → Judged (whole d size b mask porirq)
-    judged mask porirq ok = let j = w .kept in record { keys = j .keys; runs = j .runs; places = j .places; low = j .low; ok = ok }
+    judged : (mask : ℕ) (porirq : Bool) (pins : Pins) → sound (whole d size b mask porirq pins) ≡ true → Judged (whole d size b mask porirq pins)
+    judged mask porirq pins ok = let j = w .kept in record { keys = j .keys; runs = j .runs; places = j .places; low = j .low; ok = ok }
 
     pub walked-next : (c : Altered) → numberOf (sampleLines t) ≡ 0 → LookedOn d size t b c → Walked c (k + 1)
     unfolding LookedOn
     walked-next c z on =
         record {
-          kept = subst Judged (sym (on 0 false)) (looked-kept (whole d size b 0 false) t (w .kept));
-          same = λ mask porirq ok.
-              let m = whole d size b mask porirq in
-              let g = w .same mask porirq ok in
-              (ap sound (on mask porirq) ∙ looked-kept m t (judged mask porirq (g .0)) .ok, g .1 ∙ left-next n m s k h t e (g .0) z (on mask porirq));
+          kept = subst Judged (sym (on 0 false fresh)) (looked-kept (whole d size b 0 false fresh) t (w .kept));
+          same = λ mask porirq pins ok.
+              let m = whole d size b mask porirq pins in
+              let g = w .same mask porirq pins ok in
+              (ap sound (on mask porirq pins) ∙ looked-kept m t (judged mask porirq pins (g .0)) .ok, g .1 ∙ left-next n m s k h t e (g .0) z (on mask porirq pins));
         }
 
-    pub walked-stop : (numberOf (sampleLines t) ≡ 0 → ⊥) → (mask : ℕ) (porirq : Bool) → sound (whole d size a mask porirq) ≡ true
-        → ended (whole d size b mask porirq) k (numberOf (sampleLines t)) ≡ singles n (whole d size a mask porirq) s
-    walked-stop z mask porirq ok =
-        let g = w .same mask porirq ok in
-        sym (g .1 ∙ left-stop n (whole d size b mask porirq) s k h t e (g .0) z)
+    pub walked-stop : (numberOf (sampleLines t) ≡ 0 → ⊥) → (mask : ℕ) (porirq : Bool) (pins : Pins) → sound (whole d size a mask porirq pins) ≡ true
+        → ended (whole d size b mask porirq pins) k (numberOf (sampleLines t)) ≡ singles n (whole d size a mask porirq pins) s
+    walked-stop z mask porirq pins ok =
+        let g = w .same mask porirq pins ok in
+        sym (g .1 ∙ left-stop n (whole d size b mask porirq pins) s k h t e (g .0) z)
 
-  pub walked-all : (b : Altered) (k : ℕ) → k ≡ n → Walked b k → (mask : ℕ) (porirq : Bool) → sound (whole d size a mask porirq) ≡ true
-      → ended (whole d size b mask porirq) k 0 ≡ singles n (whole d size a mask porirq) s
-  walked-all b k all w mask porirq ok =
-      let m = whole d size b mask porirq in
-      sym (w .same mask porirq ok .1 ∙ ap (left n m s) all ∙ left-none n m s ∙ ap (λ (j : ℕ). ended m j 0) (sym all))
+  pub walked-all : (b : Altered) (k : ℕ) → k ≡ n → Walked b k → (mask : ℕ) (porirq : Bool) (pins : Pins) → sound (whole d size a mask porirq pins) ≡ true
+      → ended (whole d size b mask porirq pins) k 0 ≡ singles n (whole d size a mask porirq pins) s
+  walked-all b k all w mask porirq pins ok =
+      let m = whole d size b mask porirq pins in
+      sym (w .same mask porirq pins ok .1 ∙ ap (left n m s) all ∙ left-none n m s ∙ ap (λ (j : ℕ). ended m j 0) (sym all))
 
 module _ (m : Module) (s : List ℕ) where
   pub looks-declined : (n : ℕ) → numberOf (blockLines m s) ≡ n → (n ≡ 0 → ⊥) → stopped m n ≡ looksCall m s

@@ -36,6 +36,8 @@ use Rattle.sound.specs.Sound.{keySound, codesSound, restUnused, sound}
 use Rattle.sound.proofs.Laws.{sound-facts, facts-sound, sound-out}
 use Rattle.sound.proofs.Exactly.{run-said, said-key}
 use Rattle.scan.specs.Scan.{sight, contactAt, changesBelow, changes, contacts, noticed, looked}
+use Rattle.pins.specs.declared.Pins.{Pins}
+use Rattle.pins.specs.Pins.{fresh}
 use Rattle.scan.specs.Walk.{Altered, whole, Still}
 use Rattle.scan.proofs.Laws.{out-rests, looked-noticed}
 use Rattle.calls.specs.Walk.{Judged}
@@ -81,10 +83,10 @@ putAll-held size [] q e h = h
 putAll-held size (c ∷ cs) q e h =
     putAll-held size cs (put q c) (all-rest (codeIn size) c cs e) (put-held size (q .places) (q .count) (q .relint) c h (all-first (codeIn size) c cs e))
 
-pub bare : (d size : ℕ) (a : Altered) (mask : ℕ) (porirq : Bool) → sound (whole d size a mask porirq) ≡ true → sound (whole d size a 0 false) ≡ true
-bare d size a mask porirq ok =
-    let f = sound-facts (whole d size a mask porirq) ok in
-    facts-sound (whole d size a 0 false) (record { size = f .size; keys = f .keys; few = f .few; codes = f .codes; rest = f .rest; mask = omega arith; marks = f .marks })
+pub bare : (d size : ℕ) (a : Altered) (mask : ℕ) (porirq : Bool) (pins : Pins) → sound (whole d size a mask porirq pins) ≡ true → sound (whole d size a 0 false fresh) ≡ true
+bare d size a mask porirq pins ok =
+    let f = sound-facts (whole d size a mask porirq pins) ok in
+    facts-sound (whole d size a 0 false fresh) (record { size = f .size; keys = f .keys; few = f .few; codes = f .codes; rest = f .rest; mask = omega arith; marks = f .marks })
 
 pub still : (m : Module) → Judged m → Still (m .size) (m .held) (m .run)
 still m j = record { rows = rows-most (m .size) (sound-facts m (j .ok) .size); keys = sound-out m (j .ok) }

@@ -1,4 +1,4 @@
--- The six calls: number, next state, and answer or buffer, for all arguments.
+-- The eight calls: number, next state, and answer or buffer, for all arguments.
 --
 --    lookLines, heldLines           the lines of a look and of the held question
 --    lookNumber, writeNumber, ..    the number that the call gives
@@ -6,6 +6,8 @@
 --    resetCall, lookCall, writeCall, readCall    the call: number and next state
 --    readBuffer m a out             the caller's buffer after a read
 --    heldCall, interruptCall        the questions: number, state and answer
+--    sampling m x                   the state once the pins are sampled
+--    pinsCall, driveCall            the pins are sampled; the question what is driven
 use Prim.Native.Nat.{ℕ}
 use mathlib.Core.Bool.{Bool, false, not}
 use mathlib.Core.List.{List, [], _∷_}
@@ -14,15 +16,17 @@ use lib.Dec.{eqb}
 use Rattle.words.specs.Words.{_if_, _else_}
 use Rattle.numbers.specs.Numbers.{Line, _gives_, numberOf, done, unsound}
 use Rattle.keys.specs.Keys.{keyAt}
-use Rattle.judge.specs.Lines.{sampleLines, readLines, writeLines, keyLines}
+use Rattle.pins.specs.Pins as pins
+use Rattle.judge.specs.Lines.{sampleLines, readLines, writeLines, keyLines, pinLines}
 use Rattle.state.specs.declared.Module.{Module}
-use Rattle.state.specs.Module.{fresh}
+use Rattle.state.specs.Module.{fresh, withPins}
 use Rattle.flags.specs.Flags.{line}
 use Rattle.sound.specs.Sound.{sound}
 use Rattle.scan.specs.Scan.{looked}
 use Rattle.access.specs.Accesses.{wrote, readAll, bytesRead}
 use Rattle.calls.specs.declared.Done.{Done}
 use Rattle.calls.specs.declared.Answered.{Answered}
+use Rattle.calls.specs.declared.Driven.{Driven}
 
 -- "Order: 8; then 1, 2, 9 for a look; 3, 4, 5, 6 for an access; 7 for the held question.": without 9, which is retired
 unfoldable pub lookLines : Module → List ℕ → List Line
@@ -77,3 +81,26 @@ heldCall m row col = answer m (getD (m .held) (keyAt row col) false) (heldNumber
 
 unfoldable pub interruptCall : Module → Answered
 interruptCall m = answer m (line m) (interruptNumber m)
+
+-- document 02, E6: "A new call takes pin samples"; "26 [..], after 8"
+unfoldable pub pinsNumber : Module → ℕ → ℕ
+pinsNumber m x = numberOf (not (sound m) gives unsound ∷ pinLines x)
+
+unfoldable pub sampling : Module → ℕ → Module
+sampling m x = withPins m (pins.sampled (m .pins) (m .size) x)
+
+unfoldable pub pinsCall : Module → ℕ → Done
+pinsCall m x = outcome m (sampling m x) (pinsNumber m x)
+
+-- a declined question tells of no pin
+unfoldable pub driveOf : Module → ℕ → Driven
+driveOf m n =
+    record {
+      after = m;
+      number = n;
+      driven = pins.driven (m .pins) (m .size) if eqb n done else 0;
+      level = pins.levels (m .pins) (m .size) if eqb n done else 0;
+    }
+
+unfoldable pub driveCall : Module → Driven
+driveCall m = driveOf m (interruptNumber m)

@@ -1,7 +1,8 @@
-// The six calls, and looks handed over in blocks, by value: the module is passed and handed back.
+// The eight calls, and looks handed over in blocks, by value: the module is passed and handed back.
 use keys::Col;
 use keys::KEYS;
 use keys::Row;
+use pins::What;
 use state::Module;
 use state::PLACES;
 ghost use Prim.Native.Nat.{_/_};
@@ -9,9 +10,10 @@ ghost use mathlib.Core.Path.{_≡_};
 ghost use mathlib.Core.Bool.{true, false};
 ghost use lib.ListN.{length};
 ghost use Rattle.state.specs.Module.{queue};
+ghost use Rattle.pins.specs.Pins as part;
 ghost use Rattle.sound.specs.Sound.{sound};
 ghost use Rattle.scan.specs.Walk.{altered, whole};
-ghost use Rattle.calls.specs.Calls.{resetCall, lookCall, writeCall, readCall, readBuffer, heldCall, interruptCall};
+ghost use Rattle.calls.specs.Calls.{resetCall, lookCall, writeCall, readCall, readBuffer, heldCall, interruptCall, pinsCall, driveCall};
 ghost use Rattle.calls.specs.Blocks.{singles, looksCall};
 ghost use Rattle.calls.specs.Walk.{Judged, MadeOn};
 
@@ -34,6 +36,14 @@ pub struct Block {
     pub after: Module,
     pub done: usize,
     pub number: u8,
+}
+
+// What the question what is driven hands back, bit i for pin i; the level of a pin that isn't driven is 0.
+pub struct Driven {
+    pub after: Module,
+    pub number: u8,
+    pub driven: u32,
+    pub level: u32,
 }
 
 // How many looks of a block were done, and the number of the one that was declined, or 0.
@@ -93,7 +103,7 @@ fn look_by_look(
     bounce: u8,
 ) -> Made
     requires { ⌜ Judged (whole bounce size
-        (altered (now held) (now run) (queue (now places) (now count) (now relint)) (now rsint) (now rklint) (now seen)) 0 false) ⌝ }
+        (altered (now held) (now run) (queue (now places) (now count) (now relint)) (now rsint) (now rklint) (now seen)) 0 false part.fresh) ⌝ }
     ensures { λ r. ⌜ MadeOn bounce size (now (samples .entry))
         (altered (now (held .entry)) (now (run .entry)) (queue (now (places .entry)) (now (count .entry)) (now (relint .entry)))
         (now (rsint .entry)) (now (rklint .entry)) (now (seen .entry)))
@@ -284,5 +294,55 @@ pub fn interrupt(m: Module) -> Answered
         after: m,
         number: numbers::DONE,
         yes: flags::line(m),
+    }
+}
+
+// The pins are sampled, bit i for pin i.
+pub fn pins(m: Module, samples: u32) -> Done
+    ensures { λ r. ⌜ r ≡ pinsCall m samples ⌝ }
+{
+    if !sound::is_sound(m) {
+        return Done {
+            after: m,
+            number: numbers::UNSOUND,
+        };
+    }
+    let number = judge::of_pins(samples);
+    if number != numbers::DONE {
+        return Done {
+            after: m,
+            number: number,
+        };
+    }
+    let pins = pins::sampled(m.pins, m.size, samples);
+    let mut next = m;
+    next.pins = pins;
+    Done {
+        after: next,
+        number: numbers::DONE,
+    }
+}
+
+// Which pins are driven, and to what level?
+pub fn drive(m: Module) -> Driven
+    ensures { λ r. ⌜ r ≡ driveCall m ⌝ }
+{
+    if !sound::is_sound(m) {
+        return Driven {
+            after: m,
+            number: numbers::UNSOUND,
+            driven: 0,
+            level: 0,
+        };
+    }
+    let pins = m.pins;
+    let kept = pins.kept;
+    let edge = pins.edge;
+    let level = pins.level;
+    Driven {
+        after: m,
+        number: numbers::DONE,
+        driven: pins::word(What::Driven, &kept, &edge, &level, m.size),
+        level: pins::word(What::High, &kept, &edge, &level, m.size),
     }
 }

@@ -45,6 +45,7 @@ fn base_of(kind: Kind) -> usize
         Kind::Sample => 16,
         Kind::Byte => 16,
         Kind::Code => 16,
+        Kind::Pins => 16,
         _ => 10,
     }
 }
@@ -60,6 +61,7 @@ fn most_of(kind: Kind) -> u32 {
         Kind::Room => 999999,
         Kind::Rule => 1,
         Kind::Place => 999999,
+        Kind::Pins => 0xFFFFFFFF,
         _ => 0xFF,
     }
 }

@@ -10,6 +10,7 @@ mod perform;
 mod recorder;
 mod reply;
 mod session;
+mod spare;
 mod start;
 mod typed;
 

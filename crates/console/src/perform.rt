@@ -16,6 +16,7 @@ use crate::reply::question;
 use crate::reply::refused;
 use crate::reply::told;
 use crate::session::Session;
+use crate::spare;
 use crate::typed::LOOK;
 use crate::typed::NONE;
 use crate::typed::READ;
@@ -168,6 +169,17 @@ fn of_session(s: Session, word: &[u8], rest: &[u8]) -> Session {
     on_page(s, unknown(s.page, word))
 }
 
+// The commands of the spare pins.
+fn of_pins(s: Session, word: &[u8], rest: &[u8]) -> Session {
+    if is_same(word, b"pins") {
+        return spare::pins(s, rest);
+    }
+    if is_same(word, b"drive") {
+        return spare::drive(s, rest);
+    }
+    of_session(s, word, rest)
+}
+
 // The questions.
 fn of_panel(s: Session, word: &[u8], rest: &[u8]) -> Session {
     if is_same(word, b"held") {
@@ -176,7 +188,7 @@ fn of_panel(s: Session, word: &[u8], rest: &[u8]) -> Session {
     if is_same(word, b"irq") {
         return irq(s, rest);
     }
-    of_session(s, word, rest)
+    of_pins(s, word, rest)
 }
 
 // The commands of fingers.

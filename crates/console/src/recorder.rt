@@ -1,4 +1,4 @@
-// The recorder: the calls of a session go as a packed list to a file.
+// The recorder: the calls of a session go as a packed list to a file. Samples of the pins are left out: no list has them.
 use crate::session::Session;
 use answers::files;
 use answers::out;

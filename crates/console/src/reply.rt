@@ -3,9 +3,11 @@ use crate::session::Session;
 use answers::out;
 use answers::refusal::Wrong;
 use answers::refusal::refusal;
+use answers::spare;
 use calls::Answered;
 use calls::Block;
 use calls::Done;
+use calls::Driven;
 use state::Module;
 use text::page::Page;
 use text::page::least;
@@ -61,4 +63,15 @@ pub(crate) fn bytes_read(s: Session, done: Done, bytes: &[u8]) -> Session {
     }
     let page = out::listed(out::decimal(s.page, number as u32), bytes);
     with(s, done.after, out::end(page))
+}
+
+// The number of the question what is driven, and the pins' levels if it was answered.
+pub(crate) fn levels(s: Session, driven: Driven) -> Session {
+    let number = driven.number;
+    let page = out::decimal(s.page, number as u32);
+    if number != numbers::DONE {
+        return with(s, driven.after, out::end(page));
+    }
+    let told = spare::levels(page, driven.driven, driven.level);
+    with(s, driven.after, out::end(told))
 }

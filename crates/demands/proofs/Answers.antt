@@ -2,10 +2,10 @@
 --
 --    held-shown       a key is held
 --    waiting-shown    the codes that wait
---    ris-shown, mis-shown, line-shown    the flags and the interrupt line
+--    ris-shown, mis-shown, line-shown, irqst-shown    the flags, the interrupt line and the IRQ status register
 --    nth-same         the picture's register, worded in two ways
 --    picture-shown    the picture
---    byte-shown       THE BYTE THAT A READ OF ANY REGISTER GIVES
+--    byte-shown       THE BYTE THAT A READ OF ANY REGISTER GIVES, if it can be read
 -- Assumes nothing.
 use Prim.Native.Nat.{ℕ, zero, suc, _+_, _<_}
 use native.Mathlib.Omega.{arith}
@@ -19,17 +19,19 @@ use Rattle.words.specs.Words.{some, table}
 use Rattle.words.proofs.Tables.{table-length, table-at}
 use Rattle.keys.specs.Keys.{code}
 use Rattle.registers.specs.declared.Register.{Register}
-use Rattle.registers.specs.declared.Register.the-variants.{KBDBOUNCE, KBDSIZE, KBDRIS, KBDMIS, KBDIC, KBDMSK, KBDCODE, EVTCODE, RSTINTCLR, Unknown}
+use Rattle.registers.specs.declared.Register.the-variants.{KBDBOUNCE, KBDSIZE, KBDRIS, KBDMIS, KBDIC, KBDMSK, KBDCODE, EVTCODE, RSTINTCLR, PIN, Unknown}
+use Rattle.registers.specs.Registers.{pinReads, canRead}
 use Rattle.sheet.specs.Sheet as sheet
 use Rattle.sheet.specs.Sheet.{Past}
 use Rattle.sheet.proofs.Facts.{nth-none, nth-first, nth-next}
 use Rattle.state.specs.Module.{queue, queueOf}
 use Rattle.state.specs.Queue.{waiting, waits, oldest}
-use Rattle.flags.specs.Flags.{weigh, ris, mis, line}
+use Rattle.flags.specs.Flags.{weigh, ris, mis, line, irqst}
 use Rattle.picture.specs.Picture.{heldCodes, more, nth, picture}
 use Rattle.access.specs.Bytes.{byteOf}
 use Rattle.demands.specs.Shown.{places, shown}
 use Rattle.demands.proofs.Queue.{waiting-places}
+use Rattle.demands.proofs.Pins.{raised-shown, pins-byte-shown}
 
 pub held-shown : (past : Past) (k : ℕ) → k < 104 → getD (shown past .held) k false ≡ sheet.held k past
 unfolding shown
@@ -61,7 +63,11 @@ mis-shown past = rw (waits-some (sheet.waiting past))
 
 pub line-shown : (past : Past) → line (shown past) ≡ sheet.line past
 unfolding line sheet.line shown
-line-shown past = ap (λ (n : ℕ). sheet.porirq past || not (eqb n 0)) (mis-shown past)
+line-shown past = λ i. sheet.porirq past || (not (eqb (mis-shown past i) 0) || raised-shown past i)
+
+pub irqst-shown : (past : Past) → irqst (shown past) ≡ sheet.irqst past
+unfolding irqst sheet.irqst weigh shown
+irqst-shown past = λ i. cond (sheet.porirq past) 128 0 + cond (not (eqb (mis-shown past i) 0)) 64 0 + cond (raised-shown past i) 1 0
 
 -- ---- the picture
 more-some : (l : List ℕ) → more l ≡ cond (some l) 128 0
@@ -99,15 +105,24 @@ unfolding picture shown sheet.picture
 picture-shown n past = ap (nth n) (codes-below 104 past) ∙ nth-same n (sheet.heldBelow 104 past)
 
 -- ---- the registers
-pub byte-shown : (r : Register) (past : Past) → byteOf (shown past) r ≡ sheet.byteOf r past
+pin-shown : (a : ℕ) (past : Past) → pinReads a ≡ true → byteOf (shown past) (PIN a) ≡ sheet.byteOf (PIN a) past
 unfolding byteOf sheet.byteOf shown
-byte-shown KBDBOUNCE past = refl
-byte-shown KBDSIZE past = refl
-byte-shown KBDRIS past = ris-shown past
-byte-shown KBDMIS past = mis-shown past
-byte-shown KBDIC past = refl
-byte-shown KBDMSK past = refl
-byte-shown (KBDCODE n) past = picture-shown n past
-byte-shown EVTCODE past = oldest-places (sheet.waiting past) (sheet.relint past)
-byte-shown RSTINTCLR past = refl
-byte-shown Unknown past = refl
+pin-shown a past e = go (eqb a 0x91) refl
+  where
+    go : (t : Bool) → eqb a 0x91 ≡ t → byteOf (shown past) (PIN a) ≡ sheet.byteOf (PIN a) past
+    go true f = rw f (irqst-shown past)
+    go false f = rw f (pins-byte-shown past a e f)
+
+pub byte-shown : (r : Register) (past : Past) → canRead r ≡ true → byteOf (shown past) r ≡ sheet.byteOf r past
+unfolding byteOf sheet.byteOf shown
+byte-shown KBDBOUNCE past e = refl
+byte-shown KBDSIZE past e = refl
+byte-shown KBDRIS past e = ris-shown past
+byte-shown KBDMIS past e = mis-shown past
+byte-shown KBDIC past e = refl
+byte-shown KBDMSK past e = refl
+byte-shown (KBDCODE n) past e = picture-shown n past
+byte-shown EVTCODE past e = oldest-places (sheet.waiting past) (sheet.relint past)
+byte-shown RSTINTCLR past e = refl
+byte-shown (PIN a) past e = pin-shown a past e
+byte-shown Unknown past e = refl

@@ -15,20 +15,21 @@ use lib.ListN.{length, set, drop}
 use Rattle.words.specs.Words.{among, table}
 use Rattle.contact.specs.Contact.{samples, heldAfter, runOf}
 use Rattle.registers.specs.declared.Register.{Register}
-use Rattle.registers.specs.declared.Register.the-variants.{KBDBOUNCE, KBDSIZE, KBDRIS, KBDMIS, KBDIC, KBDMSK, KBDCODE, EVTCODE, RSTINTCLR, Unknown}
-use Rattle.registers.specs.Registers.{address, _is_, pictured}
-use Rattle.sheet.specs.Sheet.{Past, wrote, got, cleared, bounce, size, mask, history, held, waiting, relint, marks, rsint, rklint, porirq}
+use Rattle.registers.specs.declared.Register.the-variants.{KBDBOUNCE, KBDSIZE, KBDRIS, KBDMIS, KBDIC, KBDMSK, KBDCODE, EVTCODE, RSTINTCLR, PIN, Unknown}
+use Rattle.registers.specs.Registers.{address, _is_, pictured, _isPin_}
+use Rattle.sheet.specs.Sheet.{Past, wrote, got, cleared, bounce, size, mask, history, held, waiting, relint, marks, rsint, rklint, keptAt, pinSamples, newest, pending, porirq}
 use Rattle.sheet.specs.Sheet as sheet
 use Rattle.sheet.proofs.Facts.{waiting-most, never-all}
-use Rattle.state.specs.Module.{queue, queueOf, withQueue, fresh, restarted, forgotten}
+use Rattle.state.specs.Module.{queue, queueOf, withQueue, withPins, fresh, restarted, forgotten}
 use Rattle.state.specs.Queue.{waits, taken}
 use Rattle.picture.specs.Picture.{allRead, marked}
 use Rattle.access.specs.Bytes.{written, readOut}
-use Rattle.demands.specs.Shown.{run, places, shown}
+use Rattle.demands.specs.Shown.{run, places, pinsShown, shown}
 use Rattle.demands.proofs.Queue.{places-shift}
+use Rattle.demands.proofs.Pins.{written-shown}
 
 pub write-shown : (r : Register) (b : ℕ) (past : Past) → written (shown past) r b ≡ shown (wrote r b ∷ past)
-unfolding written shown fresh restarted forgotten cleared address _is_ bounce size mask history held waiting relint marks rsint rklint porirq table run runOf samples heldAfter places among
+unfolding written shown pinsShown fresh restarted forgotten cleared address _is_ _isPin_ bounce size mask history held waiting relint marks rsint rklint keptAt pinSamples newest pending porirq table run runOf samples heldAfter places among
 write-shown KBDBOUNCE b past = refl
 write-shown KBDSIZE b past = refl
 write-shown KBDRIS b past = refl
@@ -38,6 +39,7 @@ write-shown KBDMSK b past = refl
 write-shown (KBDCODE n) b past = refl
 write-shown EVTCODE b past = refl
 write-shown RSTINTCLR b past = refl
+write-shown (PIN a) b past = ap (withPins (shown past)) (written-shown a b past)
 write-shown Unknown b past = refl
 
 -- ---- a byte of the picture
@@ -63,7 +65,7 @@ unfolding table among forgotten
 seen-none = refl
 
 mark-shown : (n : ℕ) (past : Past) (b : Bool) → sheet.allRead (n ∷ marks past) ≡ b → marked (shown past) n ≡ shown (got (KBDCODE n) ∷ past)
-unfolding marked shown address _is_ bounce size mask history held waiting relint marks pictured rsint rklint porirq run
+unfolding marked shown pinsShown address _is_ bounce size mask history held waiting relint marks pictured rsint rklint keptAt pinSamples newest pending porirq run
 mark-shown n past true e = rw (seen-mark (marks past) n, seen-all (n ∷ marks past), e, seen-none)
 mark-shown n past false e = rw (seen-mark (marks past) n, seen-all (n ∷ marks past), e)
 
@@ -77,7 +79,7 @@ queue-taken (c ∷ w) r h =
 
 -- a byte that is none of the picture changes the queue at most
 quiet : (r : Register) (past : Past) → pictured r ≡ [] → withQueue (shown past) (queueOf (shown (got r ∷ past))) ≡ shown (got r ∷ past)
-unfolding shown bounce size mask history held waiting relint marks rsint rklint porirq run
+unfolding shown pinsShown bounce size mask history held waiting relint marks rsint rklint keptAt pinSamples newest pending porirq run
 quiet r past e = rw (e, never-all past)
 
 pub read-shown : (r : Register) (past : Past) → readOut (shown past) r ≡ shown (got r ∷ past)
@@ -91,4 +93,5 @@ read-shown KBDMSK past = quiet KBDMSK past refl
 read-shown (KBDCODE n) past = mark-shown n past (sheet.allRead (n ∷ marks past)) refl
 read-shown EVTCODE past = ap (withQueue (shown past)) (queue-taken (waiting past) (relint past) (waiting-most past)) ∙ quiet EVTCODE past refl
 read-shown RSTINTCLR past = quiet RSTINTCLR past refl
+read-shown (PIN a) past = quiet (PIN a) past refl
 read-shown Unknown past = quiet Unknown past refl

@@ -40,7 +40,7 @@ use Rattle.carry.specs.Statements.{Carrier, Carries}
 use Rattle.carry.specs.Statements as carry
 use Rattle.carry.proofs.Fits as fit
 use Rattle.carry.proofs.Meets.{ours-carries}
-use Rattle.demands.specs.Machine.{Call, reset, look, write, read, held, interrupt, after}
+use Rattle.demands.specs.Machine.{Call, reset, look, write, read, held, interrupt, pins, after}
 use Rattle.demands.specs.Ours.{changing, asking, called, ours}
 use Rattle.demands.specs.Carrying.{typed, kept, noted, recorded, CarriesSessions}
 
@@ -95,13 +95,14 @@ kept-steps m n c h g = go (fits c) refl
     go false e = rw e (g e)
 
 pub noted-steps : (m : Module) (c : Call) → typed c ≡ true → playedFrom m (noted c) ≡ called m c .next
-unfolding noted called changing asking heldCall interruptCall answer fits stepped playedFrom
+unfolding typed noted called changing asking heldCall interruptCall answer fits stepped playedFrom
 noted-steps m reset t = kept-steps m (resetCall .after) list.reset (λ e. refl) (λ e. true-false e)
 noted-steps m (look s) t = kept-steps m (lookCall m s .after) (list.look s) (λ e. refl) (λ e. sym (look-unfit m s t e))
 noted-steps m (write a bs) t = kept-steps m (writeCall m a bs .after) (list.write a bs) (λ e. refl) (λ e. sym (write-unfit m a bs t e))
 noted-steps m (read a out) t = kept-steps m (readCall m a (length out) .after) (list.read a (length out)) (λ e. refl) (λ e. sym (read-unfit m a out t e))
 noted-steps m (held row col) t = refl
 noted-steps m interrupt t = refl
+noted-steps m (pins x) t = true-false (sym t)
 
 pub recorded-plays : (cs : List Call) → all typed cs ≡ true → playedFrom fresh (recorded cs) ≡ after ours cs
 unfolding recorded playedFrom after
@@ -127,6 +128,7 @@ noted-fits (write a bs) = kept-fits (list.write a bs)
 noted-fits (read a out) = kept-fits (list.read a (length out))
 noted-fits (held row col) = all-none fits
 noted-fits interrupt = all-none fits
+noted-fits (pins x) = all-none fits
 
 pub recorded-fit : (cs : List Call) → all fits (recorded cs) ≡ true
 unfolding recorded

@@ -1,7 +1,7 @@
 -- DETERMINED: two outcomes that a call's contract in the source allows for the same arguments are equal.
 --
 --    Determined n ps r Post     so it is of the post-condition Post, of a call with n lifetimes, parameters ps and the result r
---    reset-determined, look-determined, write-determined, read-determined, held-determined, interrupt-determined
+--    reset-determined, look-determined, write-determined, read-determined, held-determined, interrupt-determined, pins-determined, drive-determined
 --    looks-determined
 --    pack-determined, add-determined, check-determined, record-determined, play-determined
 --
@@ -27,6 +27,10 @@ use Rattle.calls.proofs.held.Kinds as held-kinds
 use Rattle.calls.proofs.held.Reads as held
 use Rattle.calls.proofs.interrupt.Kinds as interrupt-kinds
 use Rattle.calls.proofs.interrupt.Reads as interrupt
+use Rattle.calls.proofs.pins.Kinds as pins-kinds
+use Rattle.calls.proofs.pins.Reads as pins
+use Rattle.calls.proofs.drive.Kinds as drive-kinds
+use Rattle.calls.proofs.drive.Reads as drive
 use Rattle.carry.proofs.writer.pack.Kinds as pack-kinds
 use Rattle.carry.proofs.writer.pack.Reads as packs
 use Rattle.carry.proofs.writer.add.Kinds as add-kinds
@@ -66,6 +70,12 @@ held-determined κs a x y v w p q = (p ∙ sym q, refl)
 
 pub interrupt-determined : Determined 0 interrupt-kinds.ps interrupt-kinds.r interrupt.Post
 interrupt-determined κs a x y v w p q = (p ∙ sym q, refl)
+
+pub pins-determined : Determined 0 pins-kinds.ps pins-kinds.r pins.Post
+pins-determined κs a x y v w p q = (p ∙ sym q, refl)
+
+pub drive-determined : Determined 0 drive-kinds.ps drive-kinds.r drive.Post
+drive-determined κs a x y v w p q = (p ∙ sym q, refl)
 
 -- blocks of looks: number, how many were done, and next state
 pub looks-determined : Determined 1 looks-kinds.ps looks-kinds.r looks.Post

@@ -5,6 +5,8 @@
 --    BytesWrong a found wanted     the bytes of a done read at a                   no-bytes
 --    ProgressWrong found wanted    the codes fetched, once EVTCODE gives 7F        no-progress
 --    LossWrong                     RELINT, once a change was lost                  no-report
+--    LineWrong found               the interrupt line                              no-line
+--    DrivenWrong found wanted      the pins that are driven                        no-driven
 --    differ                        two lists of numbers that differ are not the same
 --
 -- Each is of a machine M and calls cs, newest first, whose bytes fit if the demand asks that. The law beside it: then M does not meet the demand.
@@ -13,15 +15,16 @@ use Prim.Native.Nat.{ℕ, _+_, _*_, _≤_}
 use mathlib.Core.Path.{_≡_, refl, sym, ap, _∙_}
 use mathlib.Core.Bool.{Bool, true, false, not}
 use mathlib.Core.List.{List, [], _∷_, _++_}
-use borrow.Author.Tests.{eq-eqb}
+use borrow.Author.Tests.{eq-eqb, eqb-false}
 use lib.Dec.{eqb}
 use lib.ListN.{length, replicate}
 use Rattle.words.specs.Words.{all, some, bit}
 use Rattle.words.proofs.Laws.{true-false, and-both}
 use Rattle.sheet.specs.Sheet as sheet
 use Rattle.sheet.specs.Ledger.{kept, arrivals, unreported}
-use Rattle.demands.specs.Machine.{Call, read, held, Machine, after, done, fits, fetched, seen}
+use Rattle.demands.specs.Machine.{Call, read, held, interrupt, Machine, after, done, fits, fetched, seen}
 use Rattle.demands.specs.Demands.{Demand2, Demand3, NoSilentLoss, bytesOf}
+use Rattle.demands.specs.Pins.{Pinned, DriveDemand2}
 use Rattle.demands.specs.Sessions.{same}
 
 same-refl : (l : List ℕ) → same l l ≡ true
@@ -76,3 +79,19 @@ module _ (M : Machine) (cs : List Call) where
 
   pub no-report : LossWrong → NoSilentLoss M → ⊥
   no-report w d = true-false (sym (w .2) ∙ sym (d .told cs (w .0)) ∙ w .1)
+
+  -- whether the interrupt line is asserted
+  abbrev pub LineWrong : Bool → Type 0
+  LineWrong found = (all fits cs ≡ true) × (M .does (after M cs) interrupt .answer ≡ found) × (sheet.line (done M cs) ≡ not found)
+
+  pub no-line : (found : Bool) → LineWrong found → Demand2 M → ⊥
+  no-line found w d = opposite-not found (sym (w .1) ∙ d .line cs (w .0) ∙ w .2)
+
+module _ (P : Pinned) (cs : List Call) where
+  -- the pins that are driven, as bits
+  abbrev pub DrivenWrong : ℕ → ℕ → Type 0
+  DrivenWrong found wanted =
+      (all fits cs ≡ true) × (P .drives (after (P .calls) cs) .driven ≡ found) × (sheet.driven (done (P .calls) cs) ≡ wanted) × (eqb found wanted ≡ false)
+
+  pub no-driven : (found wanted : ℕ) → DrivenWrong found wanted → DriveDemand2 P → ⊥
+  no-driven found wanted w d = eqb-false found wanted (w .3) (sym (w .1) ∙ d .driven cs (w .0) ∙ w .2)

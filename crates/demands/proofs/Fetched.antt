@@ -25,7 +25,7 @@ use Rattle.keys.specs.Replay.{replayed, legalFrom, legal}
 use Rattle.keys.proofs.Replay.{legal-append}
 use Rattle.registers.specs.declared.Register.the-variants.{KBDSIZE}
 use Rattle.registers.specs.Registers.{_is_}
-use Rattle.sheet.specs.Sheet.{Past, looked, wrote, got, size, changes}
+use Rattle.sheet.specs.Sheet.{Past, looked, wrote, got, beside, size, changes}
 use Rattle.sheet.specs.Ledger.{Arrival, room, codes, kept, lost, arrivals, demanded}
 use Rattle.sheet.proofs.Facts.{code-is, changes-all}
 use Rattle.sheet.proofs.Arrivals.{all-kept}
@@ -47,6 +47,7 @@ demanded-good (looked s ∷ past) =
     all-append isCode (demanded past) (changes s past) (demanded-good past) (changes-all s past isCode (λ k l e. code-is k (sample s (size past) k) l))
 demanded-good (wrote r b ∷ past) = by-test (λ t. all isCode (cond t [] (demanded past)) ≡ true) (r is KBDSIZE) (λ e. all-none isCode) (λ e. demanded-good past)
 demanded-good (got r ∷ past) = demanded-good past
+demanded-good (beside e ∷ past) = demanded-good past
 
 -- what is true of every change is true of those that were kept
 kept-all : (f : ℕ → Bool) (l : List Arrival) → all f (codes l) ≡ true → all f (kept l) ≡ true

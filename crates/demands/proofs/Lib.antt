@@ -1,5 +1,6 @@
 pub mod Queue
 pub mod Carrying
+pub mod Pins
 pub mod Look
 pub mod Bytes
 pub mod Simulation
@@ -12,6 +13,8 @@ pub mod Blocks
 pub mod Rows
 pub mod Meets
 pub mod MeetsBlocks
+pub mod MeetsPins
+pub mod SparePins
 pub mod Failing
 pub mod Refuted
 pub mod RefutedBlocks
@@ -23,4 +26,5 @@ pub mod Opened
 pub mod Retired
 pub mod Hidden
 pub mod RefutedHidden
+pub mod RefutedPins
 pub mod Fetched

@@ -15,7 +15,7 @@ use Rattle.words.specs.Words.{_if_, _else_, among, some, table}
 use Rattle.words.proofs.Tables.{table-at, table-same}
 use Rattle.keys.specs.Keys.{code, sample}
 use Rattle.contact.specs.declared.Contact.{Contact}
-use Rattle.sheet.specs.Sheet.{Past, looked, bounce, size, mask, history, held, changed, change, changesBelow, changes, waiting, relint, marks, rsint, rklint, porirq}
+use Rattle.sheet.specs.Sheet.{Past, looked, bounce, size, mask, history, held, changed, change, changesBelow, changes, waiting, relint, marks, rsint, rklint, keptAt, pinSamples, newest, pending, porirq}
 use Rattle.sheet.proofs.Contacts.{contactOf, contact-right}
 use Rattle.sheet.proofs.Facts.{waiting-most}
 use Rattle.state.specs.declared.Module.{Module}
@@ -23,7 +23,7 @@ use Rattle.state.specs.Module.{Queue, queueOf, withQueue, forgotten}
 use Rattle.state.specs.Queue.{putAll}
 use Rattle.scan.specs.Scan as scan
 use Rattle.scan.proofs.Laws.{looked-noticed}
-use Rattle.demands.specs.Shown.{run, shown}
+use Rattle.demands.specs.Shown.{run, pinsShown, shown}
 use Rattle.demands.proofs.Queue.{came, came-few, putAll-came}
 
 module _ (s : List ℕ) (past : Past) where
@@ -74,13 +74,14 @@ module _ (s : List ℕ) (past : Past) where
         relint = q .relint;
         porirq = porirq past;
         seen = seen;
+        pins = pinsShown past;
       }
 
   -- the flags and the marks, with a change and without
   look-made : (b : Bool) → some (changes s past) ≡ b
       → (scan.noticed (withQueue (scan.contacts (shown past) s) (putAll (queueOf (shown past)) (changes s past))) if b else withQueue (scan.contacts (shown past) s) (putAll (queueOf (shown past)) (changes s past)))
       ≡ shown (looked s ∷ past)
-  unfolding scan.noticed scan.contacts shown parts bounce size mask porirq rsint rklint marks among table forgotten
+  unfolding scan.noticed scan.contacts shown pinsShown parts bounce size mask porirq rsint rklint marks keptAt pinSamples newest pending among table forgotten
   look-made true e =
       rw (e, or-true (rsint past), and-true (rsint past)) (λ i. parts (held-table i) (run-table i) (queue-shown i) true (rklint past || rsint past) forgotten)
   look-made false e =

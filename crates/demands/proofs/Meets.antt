@@ -1,4 +1,4 @@
--- OUR SIX CALLS MEET THE DEMANDS. The demands are in specs/Demands.antt, the calls as a machine in specs/Ours.antt.
+-- OUR CALLS MEET THE DEMANDS. The demands are in specs/Demands.antt, the calls as a machine in specs/Ours.antt.
 --
 --    ours-parts              what ours tell of a state is the state
 --    ours-demand1            numbers, and declined calls

@@ -21,8 +21,9 @@ use Rattle.numbers.specs.Numbers.{_gives_, numberOf}
 use Rattle.numbers.proofs.Laws.{line-no, lines-end}
 use Rattle.keys.specs.Keys.{isKey, keyAt, isCode}
 use Rattle.keys.proofs.Laws.{key-yes}
+use Rattle.registers.specs.declared.Access.the-variants.{Read}
 use Rattle.registers.specs.declared.Register.{Register}
-use Rattle.registers.specs.declared.Register.the-variants.{KBDBOUNCE, KBDSIZE, KBDRIS, KBDMIS, KBDIC, KBDMSK, KBDCODE, EVTCODE, RSTINTCLR, Unknown}
+use Rattle.registers.specs.declared.Register.the-variants.{KBDBOUNCE, KBDSIZE, KBDRIS, KBDMIS, KBDIC, KBDMSK, KBDCODE, EVTCODE, RSTINTCLR, PIN, Unknown}
 use Rattle.registers.specs.Registers.{address, registerAt, allowed, _is_}
 use Rattle.registers.specs.Runs.{next, addresses, runAllowed}
 use Rattle.judge.specs.Lines.{accessLines, readLines}
@@ -36,21 +37,21 @@ use Rattle.sound.specs.Sound.{sound}
 use Rattle.access.specs.Accesses.{bytesRead}
 use Rattle.calls.specs.Calls.{heldLines, readNumber, heldNumber, interruptNumber, outcome, answer, readCall, readBuffer, heldCall, interruptCall}
 use Rattle.calls.proofs.Laws.{sound-then}
-use Rattle.demands.specs.Machine.{Call, reset, look, write, read, held, interrupt, wrotes, gots, happened, done, fits, codesIn, covers, fetchedBy, fetched, seen}
+use Rattle.demands.specs.Machine.{Call, reset, look, write, read, held, interrupt, pins, wrotes, gots, happened, done, fits, codesIn, covers, fetchedBy, fetched, seen}
 use Rattle.demands.specs.Machine as machine
 use Rattle.demands.specs.Demands.{bytesOf}
 use Rattle.demands.specs.Ours.{changing, asking, called, ours}
 use Rattle.demands.proofs.Answers.{held-shown, line-shown}
-use Rattle.demands.proofs.Reached.{bytes-after, calls-after, reached, reached-sound}
+use Rattle.demands.proofs.Reached.{read-run, bytes-after, calls-after, reached, reached-sound}
 
 -- ---- a read
-bytes-read : (cs : List Call) (a n : ℕ) → bytesRead (machine.after ours cs) a n ≡ bytesOf a n (done ours cs)
-bytes-read cs a n = ap (λ (m : Module). bytesRead m a n) (calls-after cs) ∙ bytes-after a n (done ours cs)
+bytes-read : (cs : List Call) (a n : ℕ) → runAllowed Read a n ≡ true → bytesRead (machine.after ours cs) a n ≡ bytesOf a n (done ours cs)
+bytes-read cs a n run = ap (λ (m : Module). bytesRead m a n) (calls-after cs) ∙ bytes-after a n (done ours cs) run
 
 pub bytes-observed : (cs : List Call) (a : ℕ) (out : List ℕ) → called (machine.after ours cs) (read a out) .number ≡ 0
     → called (machine.after ours cs) (read a out) .buffer ≡ bytesOf a (length out) (done ours cs)
 unfolding called changing readCall outcome readBuffer
-bytes-observed cs a out e = rw e (bytes-read cs a (length out))
+bytes-observed cs a out e = rw e (bytes-read cs a (length out) (read-run (machine.after ours cs) a (length out) e))
 
 -- a reached module is sound, so a read is declined by its arguments only
 pub read-done : (cs : List Call) → all fits cs ≡ true → (a : ℕ) (out : List ℕ) → numberOf (readLines a (length out)) ≡ 0
@@ -71,7 +72,7 @@ held-observed cs t row col r c =
     rw (held-done (machine.after ours cs) row col (reached-sound cs t) key, key)
     (ap (λ (m : Module). getD (m .held) (13 * row + col) false) (reached cs) ∙ held-shown (done ours cs) (13 * row + col) (omega arith))
 
-line-done : (m : Module) → sound m ≡ true → interruptNumber m ≡ 0
+pub line-done : (m : Module) → sound m ≡ true → interruptNumber m ≡ 0
 unfolding interruptNumber
 line-done m ok = sound-then m [] ok ∙ lines-end
 
@@ -92,6 +93,7 @@ taken-got KBDMSK past = sym (append-nil (taken past))
 taken-got (KBDCODE n) past = sym (append-nil (taken past))
 taken-got EVTCODE past = refl
 taken-got RSTINTCLR past = sym (append-nil (taken past))
+taken-got (PIN a) past = sym (append-nil (taken past))
 taken-got Unknown past = sym (append-nil (taken past))
 
 taken-gots : (a n : ℕ) (past : Past) → taken (gots a n past) ≡ taken past ++ codesIn a (bytesOf a n past)
@@ -123,6 +125,7 @@ fetched-call cs (read a out) i true e =
     (λ k. i k ++ codesIn a (bytes-observed cs a out (eqb-true (called (machine.after ours cs) (read a out) .number) 0 e) k)) ∙ sym (taken-gots a (length out) (done ours cs))
 fetched-call cs (held row col) i true e = i
 fetched-call cs interrupt i true e = i
+fetched-call cs (pins x) i true e = i
 
 -- "The codes taken from the queue since then (its empty mark is no code)"
 pub fetched-taken : (cs : List Call) → fetched ours cs ≡ taken (done ours cs)

@@ -1,5 +1,6 @@
 -- OUR CALLS AND THE SHEET: after every list of calls the module is the one that the sheet writes down for what has happened.
 --
+--    read-run, write-run          an access that is done has no address that can't be accessed so; write-fit: and no bad byte for KBDSIZE
 --    writes-after, reads-after    the bytes of an access, one by one
 --    bytes-after                  the bytes that a read gives
 --    called-after                 one call
@@ -19,15 +20,15 @@ use lib.Dec.{eqb, leb, ltb}
 use lib.ListN.{length}
 use Rattle.words.specs.Words.{all}
 use Rattle.words.proofs.Laws.{and-left, and-right, and-both, all-first, all-rest}
-use Rattle.numbers.specs.Numbers.{_gives_, badSize, unsound}
+use Rattle.numbers.specs.Numbers.{Line, _gives_, noBytes, tooMany, notAllowed, badSize, unsound}
 use Rattle.numbers.proofs.Laws.{declining, line-false}
-use Rattle.registers.specs.declared.Access.the-variants.{Write}
+use Rattle.registers.specs.declared.Access.the-variants.{Read, Write}
 use Rattle.registers.specs.declared.Register.{Register}
-use Rattle.registers.specs.Registers.{registerAt}
-use Rattle.registers.specs.Runs.{next}
-use Rattle.judge.specs.Lines.{byteFits, sizesFit, accessLines, writeLines}
+use Rattle.registers.specs.Registers.{registerAt, allowed}
+use Rattle.registers.specs.Runs.{next, addresses, runAllowed}
+use Rattle.judge.specs.Lines.{byteFits, sizesFit, accessLines, readLines, writeLines}
 use Rattle.sheet.specs.Sheet as sheet
-use Rattle.sheet.specs.Sheet.{Past, looked, wrote, got}
+use Rattle.sheet.specs.Sheet.{Past, sampled, looked, wrote, got, beside}
 use Rattle.state.specs.declared.Module.{Module}
 use Rattle.state.specs.Typed.{Typed}
 use Rattle.sound.specs.Sound.{sound}
@@ -36,8 +37,8 @@ use Rattle.sound.proofs.Exactly.{sound-said}
 use Rattle.scan.specs.Scan as scan
 use Rattle.access.specs.Bytes.{byteOf}
 use Rattle.access.specs.Accesses as access
-use Rattle.calls.specs.Calls.{lookNumber, writeNumber, readNumber, outcome, answer, resetCall, lookCall, writeCall, readCall, heldCall, interruptCall}
-use Rattle.demands.specs.Machine.{Call, reset, look, write, read, held, interrupt, wrotes, gots, happened, done, fits}
+use Rattle.calls.specs.Calls.{lookNumber, writeNumber, readNumber, pinsNumber, sampling, outcome, answer, resetCall, lookCall, writeCall, readCall, heldCall, interruptCall, pinsCall}
+use Rattle.demands.specs.Machine.{Call, reset, look, write, read, held, interrupt, pins, wrotes, gots, happened, done, fits}
 use Rattle.demands.specs.Machine as machine
 use Rattle.demands.specs.Demands.{bytesOf}
 use Rattle.demands.specs.Ours.{changing, asking, called, ours}
@@ -45,6 +46,21 @@ use Rattle.demands.specs.Shown.{after, shown, fitting}
 use Rattle.demands.proofs.Simulation.{as-the-sheet-says}
 use Rattle.demands.proofs.Answers.{byte-shown}
 use Rattle.demands.proofs.Sound.{shown-sound, shown-typed}
+
+-- ---- the addresses of an access that is done
+-- the lines before that of the addresses
+abbrev counted : Module → ℕ → List Line
+counted m n = not (sound m) gives unsound ∷ eqb n 0 gives noBytes ∷ ltb 32 n gives tooMany ∷ []
+
+pub read-run : (m : Module) (a n : ℕ) → readNumber m a n ≡ 0 → runAllowed Read a n ≡ true
+unfolding readNumber readLines accessLines declining
+read-run m a n h = not-false (runAllowed Read a n) (line-false (counted m n) (not (runAllowed Read a n)) notAllowed [] refl h)
+
+pub write-run : (m : Module) (a : ℕ) (bs : List ℕ) → writeNumber m a bs ≡ 0 → runAllowed Write a (length bs) ≡ true
+unfolding writeNumber writeLines accessLines declining
+write-run m a bs h =
+    let n = length bs in
+    not-false (runAllowed Write a n) (line-false (counted m n) (not (runAllowed Write a n)) notAllowed (not (sizesFit a bs) gives badSize ∷ []) refl h)
 
 -- ---- the bytes of an access
 writes-after : (a : ℕ) (bs : List ℕ) (past : Past) → access.wrote (after past) a bs ≡ after (wrotes a bs past)
@@ -57,13 +73,15 @@ unfolding access.readAll gots after
 reads-after a zero past = refl
 reads-after a (suc n) past = reads-after (next a) n (got (registerAt a) ∷ past)
 
-pub bytes-after : (a n : ℕ) (past : Past) → access.bytesRead (after past) a n ≡ bytesOf a n past
-unfolding access.bytesRead bytesOf after
-bytes-after a zero past = refl
-bytes-after a (suc n) past =
+-- of a run that can be read
+pub bytes-after : (a n : ℕ) (past : Past) → runAllowed Read a n ≡ true → access.bytesRead (after past) a n ≡ bytesOf a n past
+unfolding access.bytesRead bytesOf after runAllowed addresses allowed
+bytes-after a zero past e = refl
+bytes-after a (suc n) past e =
+    let can : ℕ → Bool = λ b. allowed Read (registerAt b) in
     let byte : byteOf (after past) (registerAt a) ≡ sheet.byteOf (registerAt a) past =
-    ap (λ (m : Module). byteOf m (registerAt a)) (as-the-sheet-says past) ∙ byte-shown (registerAt a) past in
-    λ i. byte i ∷ bytes-after (next a) n (got (registerAt a) ∷ past) i
+    ap (λ (m : Module). byteOf m (registerAt a)) (as-the-sheet-says past) ∙ byte-shown (registerAt a) past (all-first can a (addresses (next a) n) e) in
+    λ i. byte i ∷ bytes-after (next a) n (got (registerAt a) ∷ past) (all-rest can a (addresses (next a) n) e) i
 
 -- ---- one call
 -- done or declined, the module and the past go the same way
@@ -78,7 +96,7 @@ no-matter false past = refl
 
 module _ (m : Module) (past : Past) (e : m ≡ after past) where
   called-after : (c : Call) → called m c .next ≡ after (cond (eqb (called m c .number) 0) (happened c past) past)
-  unfolding called changing asking resetCall lookCall writeCall readCall heldCall interruptCall outcome answer happened after
+  unfolding called changing asking resetCall lookCall writeCall readCall heldCall interruptCall pinsCall outcome answer happened after
   called-after reset = refl
   called-after (look s) = same-way (eqb (lookNumber m s) 0) (scan.looked m s) m (looked s ∷ past) past (ap (λ (x : Module). scan.looked x s) e) e
   called-after (write a bs) =
@@ -89,6 +107,7 @@ module _ (m : Module) (past : Past) (e : m ≡ after past) where
       (ap (λ (x : Module). access.readAll x a (length out)) e ∙ reads-after a (length out) past) e
   called-after (held row col) = e ∙ no-matter (eqb (called m (held row col) .number) 0) past
   called-after interrupt = e ∙ no-matter (eqb (called m interrupt .number) 0) past
+  called-after (pins x) = same-way (eqb (pinsNumber m x) 0) (sampling m x) m (beside (sampled x) ∷ past) past (ap (λ (n : Module). sampling n x) e) e
 
 -- ---- every list of calls
 pub calls-after : (cs : List Call) → machine.after ours cs ≡ after (done ours cs)
@@ -121,11 +140,11 @@ fitting-writes a (b ∷ bs) past low fit f =
     (fitting-wrote (registerAt a) b past (all-first (λ b. ltb b 256) b bs low) (and-left (byteFits (registerAt a) b) (sizesFit (next a) bs) fit) f)
 
 -- a write that is done has no bad byte for KBDSIZE
-write-fit : (m : Module) (a : ℕ) (bs : List ℕ) → eqb (writeNumber m a bs) 0 ≡ true → sizesFit a bs ≡ true
+pub write-fit : (m : Module) (a : ℕ) (bs : List ℕ) → writeNumber m a bs ≡ 0 → sizesFit a bs ≡ true
 unfolding writeNumber writeLines accessLines declining
 write-fit m a bs h =
     let earlier = not (sound m) gives unsound ∷ accessLines Write a (length bs) in
-    not-false (sizesFit a bs) (line-false earlier (not (sizesFit a bs)) badSize [] refl (eqb-true (writeNumber m a bs) 0 h))
+    not-false (sizesFit a bs) (line-false earlier (not (sizesFit a bs)) badSize [] refl h)
 
 fitting-call : (m : Module) (past : Past) (c : Call) → fits c ≡ true → fitting past ≡ true
     → (b : Bool) → eqb (called m c .number) 0 ≡ b → fitting (cond b (happened c past) past) ≡ true
@@ -133,10 +152,11 @@ unfolding called changing writeCall outcome fits happened fitting
 fitting-call m past c t f false e = f
 fitting-call m past reset t f true e = refl
 fitting-call m past (look s) t f true e = f
-fitting-call m past (write a bs) t f true e = fitting-writes a bs past t (write-fit m a bs e) f
+fitting-call m past (write a bs) t f true e = fitting-writes a bs past t (write-fit m a bs (eqb-true (writeNumber m a bs) 0 e)) f
 fitting-call m past (read a out) t f true e = fitting-reads a (length out) past f
 fitting-call m past (held row col) t f true e = f
 fitting-call m past interrupt t f true e = f
+fitting-call m past (pins x) t f true e = f
 
 pub reached-fitting : (cs : List Call) → all fits cs ≡ true → fitting (done ours cs) ≡ true
 unfolding done fitting

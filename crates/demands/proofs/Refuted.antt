@@ -18,7 +18,7 @@ use Rattle.registers.specs.Runs.{next}
 use Rattle.state.specs.declared.Module.{Module}
 use Rattle.state.specs.Module.{fresh, withBounce, withMask}
 use Rattle.state.specs.Typed.{Typed}
-use Rattle.demands.specs.Machine.{Call, reset, look, write, read, held, interrupt, after}
+use Rattle.demands.specs.Machine.{Call, reset, look, write, read, held, interrupt, pins, after}
 use Rattle.demands.specs.Table.{rules}
 use Rattle.demands.specs.Demands.{Demand1, Demand2, Demand3, NoSilentLoss}
 use Rattle.demands.specs.Ours.{called, ours}
@@ -37,6 +37,7 @@ built-usual m (write a bs) = refl
 built-usual m (read a out) = refl
 built-usual m (held row col) = refl
 built-usual m interrupt = refl
+built-usual m (pins x) = refl
 
 -- ---- the calls, newest first
 -- a look with these samples of rows 0 and 1, the other rows open

@@ -30,8 +30,8 @@ use Rattle.sound.specs.Sound.{sound}
 use Rattle.sound.proofs.Laws.{sound-out}
 use Rattle.scan.specs.Scan as scan
 use Rattle.scan.proofs.Laws.{changed-sample, out-rests}
-use Rattle.calls.specs.Calls.{lookLines, lookNumber, outcome, lookCall, writeCall, readCall, readBuffer, interruptCall}
-use Rattle.demands.specs.Machine.{Call, reset, look, write, read, held, interrupt}
+use Rattle.calls.specs.Calls.{lookLines, lookNumber, outcome, lookCall, writeCall, readCall, readBuffer, interruptCall, pinsCall}
+use Rattle.demands.specs.Machine.{Call, reset, look, write, read, held, interrupt, pins}
 use Rattle.demands.specs.Demands.{Demand3}
 use Rattle.demands.specs.Ours.{changing, asking, called}
 use Rattle.demands.specs.Wrong.{calledBy}
@@ -154,7 +154,7 @@ module _ (m : Module) (s : List ℕ) (ok : sound m ≡ true) where
 
 -- so that machine is ours
 pub raw-same : (m : Module) (c : Call) → rawHides .does m c ≡ called m c
-unfolding calledBy called changing asking outcome lookCall writeCall readCall readBuffer interruptCall lookNumber lookLines numberOf
+unfolding calledBy called changing asking outcome lookCall writeCall readCall readBuffer interruptCall pinsCall lookNumber lookLines numberOf
 raw-same m reset = refl
 raw-same m (look s) = go (sound m) refl
   where
@@ -165,3 +165,4 @@ raw-same m (write a bs) = refl
 raw-same m (read a out) = refl
 raw-same m (held row col) = refl
 raw-same m interrupt = refl
+raw-same m (pins x) = refl

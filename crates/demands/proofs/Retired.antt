@@ -17,15 +17,15 @@ use Rattle.words.proofs.Laws.{true-false, all-below, below-all}
 use Rattle.words.proofs.Places.{fails-at}
 use Rattle.numbers.specs.Numbers.{Line, _gives_, numberOf}
 use Rattle.keys.specs.Keys.{keyIn}
-use Rattle.judge.specs.Lines.{sampleLines, accessLines, readLines, writeLines, keyLines}
+use Rattle.judge.specs.Lines.{sampleLines, accessLines, readLines, writeLines, keyLines, pinLines}
 use Rattle.state.specs.declared.Module.{Module}
 use Rattle.sound.specs.Sound.{sound}
 use Rattle.sound.proofs.Laws.{sound-out}
 use Rattle.scan.specs.Scan.{contactAt}
 use Rattle.scan.proofs.Laws.{out-rests}
-use Rattle.calls.specs.Calls.{lookLines, heldLines, lookNumber, writeNumber, readNumber, heldNumber, interruptNumber}
-use Rattle.calls.specs.Calls.{outcome, answer, resetCall, lookCall, writeCall, readCall, heldCall, interruptCall}
-use Rattle.demands.specs.Machine.{Call, reset, look, write, read, held, interrupt}
+use Rattle.calls.specs.Calls.{lookLines, heldLines, lookNumber, writeNumber, readNumber, heldNumber, interruptNumber, pinsNumber}
+use Rattle.calls.specs.Calls.{outcome, answer, resetCall, lookCall, writeCall, readCall, heldCall, interruptCall, pinsCall}
+use Rattle.demands.specs.Machine.{Call, reset, look, write, read, held, interrupt, pins}
 use Rattle.demands.specs.Ours.{changing, asking, called}
 use Rattle.demands.specs.Retired.{falls, oldLines}
 use Rattle.demands.proofs.Numbers.{Decides, refused}
@@ -84,11 +84,12 @@ not-nine : (l : List Line) → among 9 (numbers l) ≡ false → numberOf l ≡ 
 not-nine l none e = true-false (sym (one-of l) ∙ ap (λ (n : ℕ). among n (numbers l)) e ∙ none)
 
 pub no-call-gives-nine : (m : Module) (c : Call) → called m c .number ≡ 9 → ⊥
-unfolding called changing asking resetCall lookCall writeCall readCall heldCall interruptCall outcome answer numbers among
-    lookNumber writeNumber readNumber heldNumber interruptNumber lookLines heldLines keyLines sampleLines readLines writeLines accessLines
+unfolding called changing asking resetCall lookCall writeCall readCall heldCall interruptCall pinsCall outcome answer numbers among
+    lookNumber writeNumber readNumber heldNumber interruptNumber pinsNumber lookLines heldLines keyLines sampleLines readLines writeLines accessLines pinLines
 no-call-gives-nine m reset e = omega arith
 no-call-gives-nine m (look s) e = not-nine _ refl e
 no-call-gives-nine m (write a bs) e = not-nine _ refl e
 no-call-gives-nine m (read a out) e = not-nine _ refl e
 no-call-gives-nine m (held row col) e = not-nine _ refl e
 no-call-gives-nine m interrupt e = not-nine _ refl e
+no-call-gives-nine m (pins x) e = not-nine _ refl e

@@ -5,6 +5,7 @@
 --    size-place                 KBDSIZE is at 0x03 and nowhere else
 --    decide-sizes               "a byte for KBDSIZE isn't acceptable"
 --    decide-key                 "row above 7 or column above 12"
+--    decide-pins                "a pin sample with a bit above 18"
 --    unsound-decided            "module state unsound": document 01's sentences, by Said
 --    numbers-exact              EVERY CALL, IN EVERY STATE, gives the number of the first row that holds
 --    declined-alters-nothing    a number that isn't 0 leaves state and buffer as they came, and a question's answer is no
@@ -17,29 +18,30 @@ use mathlib.Core.Path.{_≡_, refl, sym, ap, _∙_}
 use mathlib.Core.Logic.{_⊎_, inl, inr}
 use mathlib.Core.Bool.{Bool, true, false, cond, not, _&&_, _||_}
 use mathlib.Core.List.{List}
-use borrow.Author.Tests.{ne-eqb, eqb-true}
-use lib.Dec.{eqb, leb}
+use borrow.Author.Tests.{ne-eqb, eqb-true, leb-true, leb-false}
+use lib.Dec.{eqb, leb, ltb}
 use lib.ListN.{length, getD, drop, drop-of-length-le}
 use lib.Seq.{drop-cons}
 use Rattle.words.specs.Words.{all, allBelow, bit}
 use Rattle.words.proofs.Laws.{true-false, all-below}
+use Rattle.words.proofs.Bits.{high-bit, no-high-bit}
 use Rattle.words.proofs.Lists.{all-at}
 use Rattle.words.proofs.Places.{chain, all-places, fails-at}
 use Rattle.keys.specs.Keys.{isKey, acceptable}
 use Rattle.keys.proofs.Laws.{key-yes, key-row, key-col}
-use Rattle.registers.specs.declared.Register.the-variants.{KBDBOUNCE, KBDSIZE, KBDRIS, KBDMIS, KBDIC, KBDMSK, KBDCODE, EVTCODE, RSTINTCLR, Unknown}
+use Rattle.registers.specs.declared.Register.the-variants.{KBDBOUNCE, KBDSIZE, KBDRIS, KBDMIS, KBDIC, KBDMSK, KBDCODE, EVTCODE, RSTINTCLR, PIN, Unknown}
 use Rattle.registers.specs.declared.Access.{Access}
 use Rattle.registers.specs.declared.Access.the-variants.{Read, Write}
-use Rattle.registers.specs.Registers.{registerAt, address, allowed, _is_}
+use Rattle.registers.specs.Registers.{pinReads, pinWrites, registerAt, address, allowed, _is_}
 use Rattle.registers.specs.Runs.{next, addresses, runAllowed}
-use Rattle.judge.specs.Lines.{high, byteFits, sizesFit, sampleLines, accessLines, readLines, writeLines}
+use Rattle.judge.specs.Lines.{high, byteFits, sizesFit, sampleLines, accessLines, readLines, writeLines, pinLines}
 use Rattle.state.specs.declared.Module.{Module}
 use Rattle.state.specs.Typed.{Typed}
 use Rattle.sound.specs.Sound.{sound}
 use Rattle.sound.proofs.Exactly.{sound-said, said-sound}
-use Rattle.calls.specs.Calls.{lookLines, heldLines, lookNumber, writeNumber, readNumber, heldNumber, interruptNumber, outcome, answer, resetCall, lookCall, writeCall, readCall, readBuffer, heldCall, interruptCall}
-use Rattle.demands.specs.Machine.{Call, reset, look, write, read, held, interrupt, lent}
-use Rattle.demands.specs.Table.{First, place, Unsound, HighBits, NotAllowed, BadSize, NoKey, rules}
+use Rattle.calls.specs.Calls.{lookLines, heldLines, lookNumber, writeNumber, readNumber, heldNumber, interruptNumber, pinsNumber, outcome, answer, resetCall, lookCall, writeCall, readCall, readBuffer, heldCall, interruptCall, pinsCall}
+use Rattle.demands.specs.Machine.{Call, reset, look, write, read, held, interrupt, pins, lent}
+use Rattle.demands.specs.Table.{First, place, Unsound, HighBits, NotAllowed, BadSize, NoKey, HighPin, rules}
 use Rattle.demands.specs.Ours.{changing, asking, called, ours}
 use Rattle.demands.proofs.Numbers.{Decides, none, _then_, lines-first, refused, decide-eq, decide-ne, decide-lt}
 
@@ -88,27 +90,29 @@ decide-run way a n =
 
 -- ---- bytes for KBDSIZE
 -- no other register counts as KBDSIZE
-others : (two six seven eight nine code evt rst : Bool) (n : ℕ)
-    → eqb 3 (address (cond two KBDBOUNCE (cond six KBDRIS (cond seven KBDMIS (cond eight KBDIC (cond nine KBDMSK (cond code (KBDCODE n) (cond evt EVTCODE (cond rst RSTINTCLR Unknown))))))))) ≡ false
+others : (low two six seven eight nine code evt rst pin : Bool) (n a : ℕ)
+    → eqb 3 (address (cond low (cond two KBDBOUNCE (cond six KBDRIS (cond seven KBDMIS (cond eight KBDIC (cond nine KBDMSK (cond code (KBDCODE n) (cond evt EVTCODE (cond rst RSTINTCLR Unknown)))))))) (cond pin (PIN a) Unknown))) ≡ false
 unfolding address
-others true six seven eight nine code evt rst n = refl
-others false true seven eight nine code evt rst n = refl
-others false false true eight nine code evt rst n = refl
-others false false false true nine code evt rst n = refl
-others false false false false true code evt rst n = refl
-others false false false false false true evt rst n = refl
-others false false false false false false true rst n = refl
-others false false false false false false false true n = refl
-others false false false false false false false false n = refl
+others false two six seven eight nine code evt rst true n a = refl
+others false two six seven eight nine code evt rst false n a = refl
+others true true six seven eight nine code evt rst pin n a = refl
+others true false true seven eight nine code evt rst pin n a = refl
+others true false false true eight nine code evt rst pin n a = refl
+others true false false false true nine code evt rst pin n a = refl
+others true false false false false true code evt rst pin n a = refl
+others true false false false false false true evt rst pin n a = refl
+others true false false false false false false true rst pin n a = refl
+others true false false false false false false false true pin n a = refl
+others true false false false false false false false false pin n a = refl
 
 -- KBDSIZE is at 0x03 and nowhere else
-size-place : (a : ℕ) → (registerAt a is KBDSIZE) ≡ eqb a 3
+pub size-place : (a : ℕ) → (registerAt a is KBDSIZE) ≡ eqb a 3
 unfolding registerAt _is_ address
 size-place a = go (ℕ-discrete a 3)
   where
     go : Dec (a ≡ 3) → (registerAt a is KBDSIZE) ≡ eqb a 3
     go (yes e) = rw e
-    go (no e) = rw (ne-eqb a 3 e) (others (eqb a 2) (eqb a 6) (eqb a 7) (eqb a 8) (eqb a 9) (leb 11 a && leb a 14) (eqb a 16) (eqb a 132) (a - 11))
+    go (no e) = rw (ne-eqb a 3 e) (others (ltb a 0x91) (eqb a 2) (eqb a 6) (eqb a 7) (eqb a 8) (eqb a 9) (leb 11 a && leb a 14) (eqb a 16) (eqb a 132) (pinReads a || pinWrites a) (a - 11) a)
 
 byte-fits : (a b : ℕ) → byteFits (registerAt a) b ≡ cond (eqb a 3) (acceptable b) true
 unfolding byteFits
@@ -160,6 +164,11 @@ key-some row col e (inr h) = omega (arith, key-col row col e)
 decide-key : (row col : ℕ) → Decides (not (isKey row col)) (NoKey row col)
 decide-key row col = refused (isKey row col) (key-none row col) (key-some row col)
 
+-- ---- pins
+-- "a pin sample with a bit above 18"
+decide-pins : (x : ℕ) → Decides (leb 0x80000 x) (HighPin x)
+decide-pins x = record { holds = λ e. high-bit 19 x (leb-true 0x80000 x e); fails = λ e. no-high-bit 19 x (leb-false 0x80000 x e) }
+
 -- ---- the state
 -- "module state unsound"
 pub unsound-decided : (m : Module) → Typed m → Decides (not (sound m)) (Unsound m)
@@ -169,7 +178,7 @@ unsound-decided m t = refused (sound m) (λ e h. true-false (sym (said-sound m t
 module _ (m : Module) where
   -- "What it can't do it declines with a number from our list"
   pub numbers-exact : Typed m → (c : Call) → First (rules ours m c) (called m c .number)
-  unfolding called changing asking resetCall lookCall writeCall readCall heldCall interruptCall outcome answer lookNumber writeNumber readNumber heldNumber interruptNumber lookLines heldLines sampleLines readLines writeLines accessLines rules First
+  unfolding called changing asking resetCall lookCall writeCall readCall heldCall interruptCall pinsCall outcome answer lookNumber writeNumber readNumber heldNumber interruptNumber pinsNumber lookLines heldLines sampleLines readLines writeLines accessLines pinLines rules First
   numbers-exact t reset = refl
   numbers-exact t (look s) = lines-first (unsound-decided m t then decide-ne (length s) 8 then decide-high s then none)
   numbers-exact t (write a bs) =
@@ -180,13 +189,15 @@ module _ (m : Module) where
       lines-first (unsound-decided m t then decide-eq n 0 then decide-lt 32 n then decide-run Read a n then none)
   numbers-exact t (held row col) = lines-first (unsound-decided m t then decide-key row col then none)
   numbers-exact t interrupt = lines-first (unsound-decided m t then none)
+  numbers-exact t (pins x) = lines-first (unsound-decided m t then decide-pins x then none)
 
   -- "and a declined call alters neither the module nor the caller's buffer"; "for a question the answer no"
   pub declined-alters-nothing : (c : Call) → (called m c .number ≡ 0 → ⊥) → (called m c .next ≡ m) × ((called m c .buffer ≡ lent c) × (called m c .answer ≡ false))
-  unfolding called changing asking resetCall lookCall writeCall readCall heldCall interruptCall outcome answer readBuffer lent
+  unfolding called changing asking resetCall lookCall writeCall readCall heldCall interruptCall pinsCall outcome answer readBuffer lent
   declined-alters-nothing reset h = absurd (h refl)
   declined-alters-nothing (look s) h = (rw (ne-eqb (lookNumber m s) 0 h), (refl, refl))
   declined-alters-nothing (write a bs) h = (rw (ne-eqb (writeNumber m a bs) 0 h), (refl, refl))
   declined-alters-nothing (read a out) h = let d = ne-eqb (readNumber m a (length out)) 0 h in (rw d, (rw d, refl))
   declined-alters-nothing (held row col) h = (refl, (refl, rw (ne-eqb (heldNumber m row col) 0 h)))
   declined-alters-nothing interrupt h = (refl, (refl, rw (ne-eqb (interruptNumber m) 0 h)))
+  declined-alters-nothing (pins x) h = (rw (ne-eqb (pinsNumber m x) 0 h), (refl, refl))

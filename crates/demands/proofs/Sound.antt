@@ -19,7 +19,7 @@ use Rattle.words.proofs.Laws.{and-left, and-right, and-both}
 use Rattle.words.proofs.Tables.{table-at, table-length}
 use Rattle.keys.specs.Keys.{keyIn, keyOf}
 use Rattle.registers.specs.declared.Register.{Register}
-use Rattle.sheet.specs.Sheet.{Past, looked, wrote, got, size, held, waiting, marks}
+use Rattle.sheet.specs.Sheet.{Past, looked, wrote, got, beside, size, held, waiting, marks}
 use Rattle.words.proofs.Lists.{by-test, all-append, all-anywhere, all-replicate}
 use Rattle.sheet.proofs.Facts.{waiting-most, waiting-bytes, never-all, mask-low}
 use Rattle.sheet.proofs.Sizes.{writes, sizeFits, bounce-low, size-ok, out-open, run-low, waiting-in}
@@ -43,6 +43,7 @@ module _ (f : Register → ℕ → Bool) (asked : (r : Register) (b : ℕ) → (
       let fit = leb b 0xFF && byteFits r b in
       and-both (f r b) (writes f past) (asked r b (and-left fit (fitting past) e)) (fits-writes past (and-right fit (fitting past) e))
   fits-writes (got r ∷ past) e = fits-writes past e
+  fits-writes (beside x ∷ past) e = fits-writes past e
 
 bytes-fit : (past : Past) → fitting past ≡ true → writes sizes.byteLow past ≡ true
 unfolding sizes.byteLow

@@ -1,8 +1,8 @@
--- OURS IS THE SOURCE: what the contract of each of the six functions in crates/calls/src/lib.rt allows is what the machine `ours` does, and of `looks`
--- there what the blocks of `wide` are; and of the functions in crates/carry/src/, what the carrier `ours` does.
+-- OURS IS THE SOURCE: what the contract of each of these seven functions in crates/calls/src/lib.rt allows is what the machine `ours` does, of `looks`
+-- there what the blocks of `wide` are, and of `drive` what `pinned` answers; and of the functions in crates/carry/src/, what the carrier `ours` does.
 --
---    reset-source, look-source, write-source, read-source, held-source, interrupt-source
---    looks-source
+--    reset-source, look-source, write-source, read-source, held-source, interrupt-source, pins-source
+--    looks-source, drive-source
 --    pack-source, add-source, check-source, record-source, play-source
 --
 -- Each Post is what the toolchain makes of a function's `ensures` lines, and the function is proved to meet it. x is the result,
@@ -34,6 +34,11 @@ use Rattle.calls.proofs.held.Kinds as held-kinds
 use Rattle.calls.proofs.held.Reads as helds
 use Rattle.calls.proofs.interrupt.Kinds as interrupt-kinds
 use Rattle.calls.proofs.interrupt.Reads as interrupts
+use Rattle.calls.specs.declared.Driven.{Driven}
+use Rattle.calls.proofs.pins.Kinds as pins-kinds
+use Rattle.calls.proofs.pins.Reads as samples
+use Rattle.calls.proofs.drive.Kinds as drive-kinds
+use Rattle.calls.proofs.drive.Reads as drives
 use Rattle.carry.specs.declared.writer.Packed.{Packed}
 use Rattle.carry.specs.declared.writer.Added.{Added}
 use Rattle.carry.specs.declared.reader.Record.{Record}
@@ -49,8 +54,8 @@ use Rattle.carry.proofs.reader.record_at.Kinds as record-kinds
 use Rattle.carry.proofs.reader.record_at.Reads as records
 use Rattle.carry.proofs.player.play.Kinds as play-kinds
 use Rattle.carry.proofs.player.play.Reads as plays
-use Rattle.demands.specs.Machine.{reset, look, write, read, held, interrupt}
-use Rattle.demands.specs.Ours.{changing, asking, called, blocking, wide}
+use Rattle.demands.specs.Machine.{reset, look, write, read, held, interrupt, pins}
+use Rattle.demands.specs.Ours.{changing, asking, called, blocking, wide, driving, pinned}
 
 pub reset-source : (κs : Lfts 0) (a : Dens κs reset-kinds.ps) (x : Done) (e : AtExit (endedOf 0 reset-kinds.ps reset-kinds.r) κs)
     → resets.Post κs a x e → (m : Module) → changing x [] ≡ called m reset
@@ -82,11 +87,22 @@ pub interrupt-source : (κs : Lfts 0) (a : Dens κs interrupt-kinds.ps) (x : Ans
 unfolding called
 interrupt-source κs a x e p = ap asking p
 
+pub pins-source : (κs : Lfts 0) (a : Dens κs pins-kinds.ps) (x : Done) (e : AtExit (endedOf 0 pins-kinds.ps pins-kinds.r) κs)
+    → samples.Post κs a x e → changing x [] ≡ called (a .0) (pins (a .1 .0))
+unfolding called
+pins-source κs a x e p = ap (λ (d : Done). changing d []) p
+
 -- ---- blocks of looks
 
 pub looks-source : (κs : Lfts 1) (a : Dens κs looks-kinds.ps) (x : Block) (e : AtExit (endedOf 1 looks-kinds.ps looks-kinds.r) κs)
     → blocks.Post κs a x e → blocking x ≡ wide .looks (a .0) (now (a .1 .0))
 looks-source κs a x e p = ap blocking p
+
+-- ---- what is driven
+
+pub drive-source : (κs : Lfts 0) (a : Dens κs drive-kinds.ps) (x : Driven) (e : AtExit (endedOf 0 drive-kinds.ps drive-kinds.r) κs)
+    → drives.Post κs a x e → driving x ≡ pinned .drives (a .0)
+drive-source κs a x e p = ap driving p
 
 -- ---- packed lists
 

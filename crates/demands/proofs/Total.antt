@@ -1,7 +1,7 @@
--- TOTAL: the six calls, blocks of looks, and the five of packed lists, take every value. Each Pre is what the toolchain makes of a function's `requires` lines in crates/calls/src/ and
+-- TOTAL: the eight calls, blocks of looks, and the five of packed lists, take every value. Each Pre is what the toolchain makes of a function's `requires` lines in crates/calls/src/ and
 -- crates/carry/src/: there are none, and it holds of all arguments.
 --
---    reset-total, look-total, write-total, read-total, held-total, interrupt-total
+--    reset-total, look-total, write-total, read-total, held-total, interrupt-total, pins-total, drive-total
 --    looks-total
 --    pack-total, add-total, check-total, record-total, play-total
 -- Assumes nothing.
@@ -21,6 +21,10 @@ use Rattle.calls.proofs.held.Kinds as held-kinds
 use Rattle.calls.proofs.held.Reads as helds
 use Rattle.calls.proofs.interrupt.Kinds as interrupt-kinds
 use Rattle.calls.proofs.interrupt.Reads as interrupts
+use Rattle.calls.proofs.pins.Kinds as pins-kinds
+use Rattle.calls.proofs.pins.Reads as samples
+use Rattle.calls.proofs.drive.Kinds as drive-kinds
+use Rattle.calls.proofs.drive.Reads as drives
 use Rattle.carry.proofs.writer.pack.Kinds as pack-kinds
 use Rattle.carry.proofs.writer.pack.Reads as packs
 use Rattle.carry.proofs.writer.add.Kinds as add-kinds
@@ -50,6 +54,12 @@ held-total κs a = tt
 
 pub interrupt-total : (κs : Lfts 0) (a : Dens κs interrupt-kinds.ps) → interrupts.Pre κs a
 interrupt-total κs a = tt
+
+pub pins-total : (κs : Lfts 0) (a : Dens κs pins-kinds.ps) → samples.Pre κs a
+pins-total κs a = tt
+
+pub drive-total : (κs : Lfts 0) (a : Dens κs drive-kinds.ps) → drives.Pre κs a
+drive-total κs a = tt
 
 -- blocks of looks
 pub looks-total : (κs : Lfts 1) (a : Dens κs looks-kinds.ps) → blocks.Pre κs a

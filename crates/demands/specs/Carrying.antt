@@ -1,13 +1,13 @@
 -- A SESSION CARRIED from the cutting room to the bench: request E1, over every sequence of calls.
 --
---    typed c         the call's numbers are of their types: samples of 16 bits, addresses and bytes of 8
+--    typed c         the call's numbers are of their types: samples of 16 bits, addresses and bytes of 8; and it is no pin sample, which has no record
 --    kept c          a call, if it fits in a list
 --    noted c         the record of a call: done or declined, if it fits; a question has none
 --    recorded cs     the records of a session, whose calls are newest first; a list has its oldest call first
 --    CarriesSessions K    what the writer wrote of a session plays to the state of that session
 use Prim.Native.Nat.{ℕ, _≤_}
 use mathlib.Core.Path.{_≡_}
-use mathlib.Core.Bool.{Bool, true, _&&_}
+use mathlib.Core.Bool.{Bool, true, false, _&&_}
 use mathlib.Core.List.{List, [], _∷_, _++_}
 use lib.ListN.{length, take}
 use Rattle.words.specs.Words.{_if_, _else_, all}
@@ -17,7 +17,7 @@ use Rattle.carry.specs.Carried as list
 use Rattle.carry.specs.Carried.{Carried, fits, packing}
 use Rattle.carry.specs.Calls.{listed}
 use Rattle.carry.specs.Statements.{Carrier}
-use Rattle.demands.specs.Machine.{Call, reset, look, write, read, held, interrupt, after}
+use Rattle.demands.specs.Machine.{Call, reset, look, write, read, held, interrupt, pins, after}
 use Rattle.demands.specs.Ours.{ours}
 
 unfoldable pub typed : Call → Bool
@@ -27,6 +27,7 @@ typed (write a bs) = below 8 a && all (below 8) bs
 typed (read a out) = below 8 a
 typed (held row col) = true
 typed interrupt = true
+typed (pins x) = false
 
 unfoldable pub kept : Carried → List Carried
 kept c = c ∷ [] if fits c else []
@@ -38,6 +39,7 @@ noted (write a bs) = kept (list.write a bs)
 noted (read a out) = kept (list.read a (length out))
 noted (held row col) = []
 noted interrupt = []
+noted (pins x) = []
 
 unfoldable pub recorded : List Call → List Carried
 recorded [] = []

@@ -23,7 +23,7 @@ use Rattle.demands.specs.Table.{First, rules}
 
 -- "1. The module takes every call, with every value, and finishes it. What it can't do it declines with a number from our list,
 -- and a declined call alters neither the module nor the caller's buffer."
--- Of the six calls; the same with blocks of looks, and with the exception that these have, is Demand1Wide on the page Blocks.
+-- Of seven calls; the same with blocks of looks, and with the exception that these have, is Demand1Wide on the page Blocks.
 pub record Demand1 (M : Machine) : Type 0 where
   -- of every state whose parts are values of their types
   pub exact : (σ : M .State) → Typed (M .parts σ) → (c : Call) → First (rules M σ c) (M .does σ c .number)
@@ -40,6 +40,7 @@ bytesOf a (suc n) past = sheet.byteOf (registerAt a) past ∷ bytesOf (next a) n
 
 -- "2. Held keys, fetched bytes, flags and the interrupt line are what the LM8328 data sheet, as narrowed by document 01,
 -- gives for the looks and bus accesses made so far. That holds for setting registers as well as for fetching them."
+-- Document 02, E6, for the line: "demand 2's rule for it gains that clause". What is driven: DriveDemand2, on the page Pins.
 pub record Demand2 (M : Machine) : Type 0 where
   pub bytes : (cs : List Call) (a : ℕ) (out : List ℕ) → M .does (after M cs) (read a out) .number ≡ 0
       → M .does (after M cs) (read a out) .buffer ≡ bytesOf a (length out) (done M cs)

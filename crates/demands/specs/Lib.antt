@@ -3,6 +3,7 @@ pub mod Carrying
 pub mod Table
 pub mod Demands
 pub mod Blocks
+pub mod Pins
 pub mod Ours
 pub mod Shown
 pub mod Wrong
@@ -10,3 +11,4 @@ pub mod WrongBlocks
 pub mod Sessions
 pub mod Retired
 pub mod WrongHidden
+pub mod WrongPins

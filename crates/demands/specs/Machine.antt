@@ -1,6 +1,6 @@
 -- CALLS AND MACHINES.
 --
---    Call            the six calls as data
+--    Call            seven calls as data; the eighth, the question what is driven, has a page of its own, Pins
 --    Gives           what a call gives back
 --    Machine         any set of states with a start, and what each call does
 --    lent c          the buffer that is lent to a call
@@ -18,12 +18,12 @@ use Rattle.words.specs.Words.{_if_, _else_, all}
 use Rattle.registers.specs.declared.Register.the-variants.{KBDSIZE, EVTCODE}
 use Rattle.registers.specs.Registers.{registerAt, _is_}
 use Rattle.registers.specs.Runs.{next}
-use Rattle.sheet.specs.Sheet.{Past, looked, wrote, got}
+use Rattle.sheet.specs.Sheet.{Past, sampled, looked, wrote, got, beside}
 use Rattle.sheet.specs.Ledger.{codeGot}
 use Rattle.state.specs.declared.Module.{Module}
 
 -- "There are six calls: reset, look (one set of contact samples), write access, read access, and two questions
--- (is this key held; is the interrupt line asserted)."
+-- (is this key held; is the interrupt line asserted)." Document 02, E6: "A new call takes pin samples"
 pub data Call : Type 0 where
   reset : Call
   -- the samples
@@ -35,6 +35,8 @@ pub data Call : Type 0 where
   -- row and column
   held : ℕ → ℕ → Call
   interrupt : Call
+  -- the samples, bit i for pin i
+  pins : ℕ → Call
 
 pub record Gives (State : Type 0) : Type 0 where
   pub number : ℕ
@@ -48,7 +50,7 @@ pub record Machine : Type 1 where
   pub State : Type 0
   -- the state after reset
   pub start : State
-  -- what document 01 speaks of in a state: size, keys and runs, queue, mask and marks, as our struct has them
+  -- what document 01 speaks of in a state: size, keys and runs, queue, mask and marks, as our struct has them; no demand looks at its pins
   pub parts : State → Module
   pub does : State → Call → Gives State
 
@@ -59,6 +61,7 @@ lent (write a bs) = []
 lent (read a out) = out
 lent (held row col) = []
 lent interrupt = []
+lent (pins x) = []
 
 unfoldable pub after : (M : Machine) → List Call → M .State
 after M [] = M .start
@@ -83,6 +86,7 @@ happened (write a bs) past = wrotes a bs past
 happened (read a out) past = gots a (length out) past
 happened (held row col) past = past
 happened interrupt past = past
+happened (pins x) past = beside (sampled x) ∷ past
 
 unfoldable pub done : (M : Machine) → List Call → Past
 done M [] = []
@@ -96,6 +100,7 @@ fits (write a bs) = all (λ b. ltb b 256) bs
 fits (read a out) = true
 fits (held row col) = true
 fits interrupt = true
+fits (pins x) = true
 
 -- ---- what was fetched, and what still waits, as a caller sees it
 
@@ -117,6 +122,7 @@ fetchedBy (write a bs) buffer l = [] if covers a bs else l
 fetchedBy (read a out) buffer l = l ++ codesIn a buffer
 fetchedBy (held row col) buffer l = l
 fetchedBy interrupt buffer l = l
+fetchedBy (pins x) buffer l = l
 
 unfoldable pub fetched : (M : Machine) → List Call → List ℕ
 fetched M [] = []

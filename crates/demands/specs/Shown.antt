@@ -3,6 +3,7 @@
 --    after past      the module after a past: reset, then what each look and each byte makes of it
 --    run k past      key k's run
 --    places w        the queue's 15 places while the codes w wait
+--    pinsShown past  its pins' part
 --    shown past      THE MODULE THAT THE SHEET WRITES DOWN, field by field
 --    fitting past    every byte written is one, and those for KBDSIZE are acceptable
 --
@@ -12,12 +13,15 @@ use mathlib.Core.Bool.{Bool, true, _&&_}
 use mathlib.Core.List.{List, [], _∷_, _++_}
 use lib.ListN.{length, replicate}
 use lib.Dec.{leb}
-use Rattle.words.specs.Words.{among, table}
+use Rattle.words.specs.Words.{among, some, table}
+use Rattle.pins.specs.declared.Pins.{Pins}
+use Rattle.pins.specs.Pins.{addressOf, pins}
 use Rattle.contact.specs.Contact.{samples, runOf}
-use Rattle.sheet.specs.Sheet.{Past, looked, wrote, got, bounce, size, mask, history, held, waiting, relint, marks, rsint, rklint, porirq}
+use Rattle.sheet.specs.Sheet.{Past, sampled, looked, wrote, got, beside, bounce, size, mask, history, held, waiting, relint, marks, rsint, rklint, porirq, keptAt, pinSamples, newest, pending}
 use Rattle.judge.specs.Lines.{byteFits}
 use Rattle.state.specs.declared.Module.{Module}
 use Rattle.state.specs.Module.{fresh}
+use Rattle.calls.specs.Calls.{sampling}
 use Rattle.scan.specs.Scan as scan
 use Rattle.access.specs.Bytes.{written, readOut}
 
@@ -27,6 +31,7 @@ after [] = fresh
 after (looked s ∷ past) = scan.looked (after past) s
 after (wrote r b ∷ past) = written (after past) r b
 after (got r ∷ past) = readOut (after past) r
+after (beside (sampled x) ∷ past) = sampling (after past) x
 
 -- "its run: how many of its newest ones in a row are the opposite of how it is held"
 unfoldable pub run : ℕ → Past → ℕ
@@ -35,6 +40,9 @@ run k past = runOf (held k past) (samples (history k past))
 -- "kept oldest first from the first place, and unused places hold 0x7F"
 unfoldable pub places : List ℕ → List ℕ
 places w = w ++ replicate (15 - length w) 0x7F
+
+unfoldable pub pinsShown : Past → Pins
+pinsShown past = pins (table (λ n. keptAt past (addressOf n)) 33) (table (pending past) 19) (table (newest past) 19) (some (pinSamples past))
 
 -- each field is what the sheet says under the same name; seen, which picture registers are among its marks
 unfoldable pub shown : Past → Module
@@ -52,6 +60,7 @@ shown past =
       relint = relint past;
       porirq = porirq past;
       seen = table (λ n. among n (marks past)) 4;
+      pins = pinsShown past;
     }
 
 -- what the calls' types and number 6 say of the bytes that are written
@@ -60,3 +69,4 @@ fitting [] = true
 fitting (looked s ∷ past) = fitting past
 fitting (wrote r b ∷ past) = leb b 0xFF && byteFits r b && fitting past
 fitting (got r ∷ past) = fitting past
+fitting (beside e ∷ past) = fitting past

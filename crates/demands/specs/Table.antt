@@ -4,7 +4,7 @@
 --    Rule, P ⇒ n         a row of the table: n, when P holds
 --    First rules n       "A number is given exactly when its line is true and no line before it in this order is."
 --    place a k           the address of place k of a run that begins at a
---    Unsound, NotEight, HighBits, NotAllowed, BadSize, NoKey    the conditions of rows 8, 1, 2, 5, 6 and 7
+--    Unsound, NotEight, HighBits, NotAllowed, BadSize, NoKey, HighPin    the conditions of rows 8, 1, 2, 5, 6, 7 and 26
 --    rules M σ c         the rows for a call c that is made in the state σ, in document 01's order
 use Prim.Native.Nat.{ℕ, zero, suc, _<_}
 use mathlib.Core.Path.{_≡_}
@@ -20,7 +20,7 @@ use Rattle.registers.specs.Registers.{registerAt, allowed}
 use Rattle.registers.specs.Runs.{next}
 use Rattle.state.specs.declared.Module.{Module}
 use Rattle.sound.specs.Said.{Said}
-use Rattle.demands.specs.Machine.{Call, reset, look, write, read, held, interrupt, Machine}
+use Rattle.demands.specs.Machine.{Call, reset, look, write, read, held, interrupt, pins, Machine}
 
 infix 70 _⇒_
 pub data Rule : Type 1 where
@@ -59,7 +59,11 @@ BadSize a bs = (k : ℕ) × ((k < length bs) × ((place a k ≡ 0x03) × (accept
 abbrev pub NoKey : ℕ → ℕ → Type 0
 NoKey row col = (7 < row) ⊎ (12 < col)
 
--- "Order: 8; then 1, 2, 9 for a look; 3, 4, 5, 6 for an access; 7 for the held question.": without 9, which is retired
+-- document 02, E6: "a pin sample with a bit above 18"
+abbrev pub HighPin : ℕ → Type 0
+HighPin x = (k : ℕ) × ((18 < k) × (bit k x ≡ true))
+
+-- "Order: 8; then 1, 2, 9 for a look; 3, 4, 5, 6 for an access; 7 for the held question.": without 9, which is retired. E6: "26 [..], after 8"
 unfoldable pub rules : (M : Machine) → M .State → Call → List Rule
 rules M σ reset = []
 rules M σ (look s) = Unsound (M .parts σ) ⇒ 8 ∷ NotEight s ⇒ 1 ∷ HighBits s ⇒ 2 ∷ []
@@ -67,3 +71,4 @@ rules M σ (write a bs) = Unsound (M .parts σ) ⇒ 8 ∷ (length bs ≡ 0) ⇒ 
 rules M σ (read a out) = Unsound (M .parts σ) ⇒ 8 ∷ (length out ≡ 0) ⇒ 3 ∷ (32 < length out) ⇒ 4 ∷ NotAllowed Read a (length out) ⇒ 5 ∷ []
 rules M σ (held row col) = Unsound (M .parts σ) ⇒ 8 ∷ NoKey row col ⇒ 7 ∷ []
 rules M σ interrupt = Unsound (M .parts σ) ⇒ 8 ∷ []
+rules M σ (pins x) = Unsound (M .parts σ) ⇒ 8 ∷ HighPin x ⇒ 26 ∷ []

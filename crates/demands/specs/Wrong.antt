@@ -1,6 +1,6 @@
 -- WRONG MACHINES: ours, with one thing wrong in each, as document 01 lists them, and some more. None meets the demands: proofs/Refuted.antt.
 --
---    Effects, usual, built e    what the looks, writes, reads and line questions that are done do; ours; the machine that does so
+--    Effects, usual, built e    what the looks, writes, reads, line questions and pin samples that are done do; ours; the machine that does so
 --    Marked, flagged e then     our module with a flag beside it; the machine whose effects go by the flag, and what each call makes of the flag
 --    declining      declines every call
 --    blank          EVTCODE is always 7F, and the code is taken out
@@ -34,8 +34,8 @@ use Rattle.flags.specs.Flags.{line}
 use Rattle.scan.specs.Scan.{contactAt, changesBelow, changes, looked}
 use Rattle.access.specs.Bytes.{byteOf, readOut}
 use Rattle.access.specs.Accesses.{wrote, readAll, bytesRead}
-use Rattle.calls.specs.Calls.{lookNumber, writeNumber, readNumber, heldNumber, interruptNumber, outcome, answer, resetCall, heldCall}
-use Rattle.demands.specs.Machine.{Call, reset, look, write, read, held, interrupt, Gives, Machine, lent}
+use Rattle.calls.specs.Calls.{lookNumber, writeNumber, readNumber, heldNumber, interruptNumber, pinsNumber, sampling, outcome, answer, resetCall, heldCall}
+use Rattle.demands.specs.Machine.{Call, reset, look, write, read, held, interrupt, pins, Gives, Machine, lent}
 use Rattle.demands.specs.Ours.{changing, asking, called}
 
 -- ours, but that the calls do this
@@ -49,10 +49,11 @@ pub record Effects : Type 0 where
   pub read : Module → ℕ → ℕ → Module
   pub bytes : Module → ℕ → ℕ → List ℕ
   pub line : Module → Bool
+  pub pins : Module → ℕ → Module
 
 -- what ours do
 abbrev pub usual : Effects
-usual = record { look = looked; write = wrote; read = readAll; bytes = bytesRead; line = line }
+usual = record { look = looked; write = wrote; read = readAll; bytes = bytesRead; line = line; pins = sampling }
 
 unfoldable pub calledBy : Effects → Module → Call → Gives Module
 calledBy e m reset = changing resetCall []
@@ -63,19 +64,20 @@ calledBy e m (read a out) =
     changing (outcome m (e .read m a (length out)) n) (e .bytes m a (length out) if eqb n 0 else out)
 calledBy e m (held row col) = asking (heldCall m row col)
 calledBy e m interrupt = asking (answer m (e .line m) (interruptNumber m))
+calledBy e m (pins x) = changing (outcome m (e .pins m x) (pinsNumber m x)) []
 
 abbrev pub built : Effects → Machine
 built e = doing (calledBy e)
 
 -- one effect for the usual one
 abbrev pub looking : (Module → List ℕ → Module) → Machine
-looking f = built (record { look = f; write = wrote; read = readAll; bytes = bytesRead; line = line })
+looking f = built (record { look = f; write = wrote; read = readAll; bytes = bytesRead; line = line; pins = sampling })
 
 abbrev pub writing : (Module → ℕ → List ℕ → Module) → Machine
-writing f = built (record { look = looked; write = f; read = readAll; bytes = bytesRead; line = line })
+writing f = built (record { look = looked; write = f; read = readAll; bytes = bytesRead; line = line; pins = sampling })
 
 abbrev pub reading : (Module → ℕ → ℕ → Module) → (Module → ℕ → ℕ → List ℕ) → Machine
-reading f g = built (record { look = looked; write = wrote; read = f; bytes = g; line = line })
+reading f g = built (record { look = looked; write = wrote; read = f; bytes = g; line = line; pins = sampling })
 
 -- our module with a flag beside it, which is clear after reset
 pub record Marked : Type 0 where
@@ -124,7 +126,7 @@ asleep = looking nothing
 -- ---- "one that handles the first look and ignores later ones"
 -- the flag: a look was done
 unfoldable pub ignoring : Bool → Effects
-ignoring flag = record { look = λ m s. m if flag else looked m s; write = wrote; read = readAll; bytes = bytesRead; line = line }
+ignoring flag = record { look = λ m s. m if flag else looked m s; write = wrote; read = readAll; bytes = bytesRead; line = line; pins = sampling }
 
 unfoldable pub handled : Marked → Call → Bool
 handled σ reset = false
@@ -133,6 +135,7 @@ handled σ (write a bs) = σ .flag
 handled σ (read a out) = σ .flag
 handled σ (held row col) = σ .flag
 handled σ interrupt = σ .flag
+handled σ (pins x) = σ .flag
 
 abbrev pub firstLook : Machine
 firstLook = flagged ignoring handled
@@ -178,6 +181,7 @@ hushing flag =
       read = readAll;
       bytes = λ m a n. bytesRead (quiet m) a n if flag && (eqb a 0x06 || eqb a 0x07) else bytesRead m a n;
       line = λ m. line (quiet m) if flag else line m;
+      pins = sampling;
     }
 
 -- a KBDIC write that is done clears it, and the next look that is done sets it again
@@ -188,6 +192,7 @@ hushed σ (write a bs) = σ .flag || (eqb a 0x08 && eqb (writeNumber (σ .base) 
 hushed σ (read a out) = σ .flag
 hushed σ (held row col) = σ .flag
 hushed σ interrupt = σ .flag
+hushed σ (pins x) = σ .flag
 
 abbrev pub lowering : Machine
 lowering = flagged hushing hushed
@@ -212,6 +217,7 @@ takenFirst m (write a bs) = called m (write a bs) .next
 takenFirst m (read a out) = readAll m a (length out)
 takenFirst m (held row col) = called m (held row col) .next
 takenFirst m interrupt = called m interrupt .next
+takenFirst m (pins x) = called m (pins x) .next
 
 unfoldable pub hurried : Module → Call → Gives Module
 hurried m c = record { number = called m c .number; next = takenFirst m c; buffer = called m c .buffer; answer = called m c .answer }
@@ -257,6 +263,7 @@ trusted m (read a out) =
     changing (outcome m (readAll m a (length out)) n) (bytesRead m a (length out) if eqb n 0 else out)
 trusted m (held row col) = asking (answer m (getD (m .held) (keyAt row col) false) (heldNumber fresh row col))
 trusted m interrupt = asking (answer m (line m) (interruptNumber fresh))
+trusted m (pins x) = changing (outcome m (sampling m x) (pinsNumber fresh x)) []
 
 abbrev pub trusting : Machine
 trusting = doing trusted

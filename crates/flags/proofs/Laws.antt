@@ -8,7 +8,8 @@
 --    ris-most, mis-most      "the rest 0": KBDRIS and KBDMIS are below 16
 --    ris-bits                the bits of KBDRIS are the flags
 --    mis-shows, mis-bits     a bit of KBDMIS is that of KBDRIS, or 0 if KBDMSK has it set
---    line-porirq, line-mis   the line if PORIRQ is set, and if it isn't
+--    line-porirq, line-mis, line-pins   the line if PORIRQ is set; else, if KBDMIS isn't 0; else
+--    line-irqst              the line is asserted exactly when IRQST isn't 0
 -- Assumes nothing.
 use Prim.Native.Nat.{ℕ, zero, suc, _+_, _*_, _<_, _≤_}
 use native.Mathlib.Omega.{arith}
@@ -18,10 +19,10 @@ use mathlib.Core.List.{[], _∷_}
 use lib.Dec.{eqb}
 use Rattle.words.specs.Words.{_if_, _else_, bit, without}
 use Rattle.words.specs.Bits.{binary}
-use Rattle.words.proofs.Bits.{binary-bit}
+use Rattle.words.proofs.Bits.{binary-bit, some-flag}
 use Rattle.state.specs.declared.Module.{Module}
 use Rattle.state.specs.Queue.{waits}
-use Rattle.flags.specs.Flags.{weigh, ris, mis, line}
+use Rattle.flags.specs.Flags.{weigh, ris, mis, raised, line, irqst}
 
 abbrev pub four : Bool → Bool → Bool → Bool → ℕ
 four a b c d = weigh a 8 + weigh b 4 + weigh c 2 + weigh d 1
@@ -83,6 +84,15 @@ module _ (m : Module) where
   unfolding line
   line-porirq e = rw e
 
-  pub line-mis : m .porirq ≡ false → line m ≡ not (eqb (mis m) 0)
-  unfolding line
-  line-mis e = ap (λ (p : Bool). p || not (eqb (mis m) 0)) e
+  module _ (clear : m .porirq ≡ false) where
+    pub line-mis : not (eqb (mis m) 0) ≡ true → line m ≡ true
+    unfolding line
+    line-mis e = λ i. clear i || (e i || raised m)
+
+    pub line-pins : not (eqb (mis m) 0) ≡ false → line m ≡ raised m
+    unfolding line
+    line-pins e = λ i. clear i || (e i || raised m)
+
+  pub line-irqst : line m ≡ not (eqb (irqst m) 0)
+  unfolding line irqst weigh
+  line-irqst = some-flag (m .porirq) (not (eqb (mis m) 0)) (raised m)

@@ -1,9 +1,9 @@
-// The flags as KBDRIS and KBDMIS show them, and the interrupt line.
+// The flags as KBDRIS and KBDMIS show them, the interrupt line, and IRQST.
 use state::Module;
 ghost use mathlib.Core.Path.{_≡_};
 ghost use Prim.Native.Nat.{_≤_, _+_};
 ghost use Rattle.words.specs.Words.{without};
-ghost use Rattle.flags.specs.Flags.{line, misOf, risOf, weigh};
+ghost use Rattle.flags.specs.Flags.{irqstOf, line, misOf, risOf, weigh};
 
 // A flag's weight if it is set, else 0.
 fn weigh(flag: bool, weight: u8) -> u8
@@ -60,5 +60,18 @@ pub fn line(m: Module) -> bool
     if porirq {
         return true;
     }
-    mis(m.relint, m.count, m.rklint, m.rsint, m.mask) != 0
+    if mis(m.relint, m.count, m.rklint, m.rsint, m.mask) != 0 {
+        return true;
+    }
+    let pins = m.pins;
+    let kept = pins.kept;
+    let edge = pins.edge;
+    pins::is_raised(&kept, &edge)
+}
+
+// What IRQST reads: PORIRQ, whether KBDMIS isn't 0, and whether an enabled edge of a pin is pending.
+pub fn irqst(porirq: bool, mis: u8, raised: bool) -> u8
+    ensures { λ r. ⌜ r ≡ irqstOf porirq mis raised ⌝ }
+{
+    weigh(porirq, 128) + weigh(mis != 0, 64) + weigh(raised, 1)
 }

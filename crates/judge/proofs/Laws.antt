@@ -6,6 +6,7 @@
 --    samples-decline, access-declines   no line gives the number of a call that is done
 --    eight-samples                      a look whose samples are not declined has eight
 --    write-access, write-rest           a write is declined as an access, or else by its bytes alone
+--    read-allowed                       a read that is not declined may be done at each of its addresses
 --    key-there                          a row and a column that are not declined are those of a key
 -- Assumes nothing.
 use Prim.Native.Nat.{ℕ, _+_, _/_, _%_, _≤_, _<_}
@@ -16,23 +17,23 @@ use mathlib.Core.Bool.{Bool, true, false, not, _||_}
 use mathlib.Core.List.{List, [], _∷_}
 use lib.ListN.{length, getD, drop, drop-of-length-le}
 use lib.Seq.{drop-cons}
-use lib.Dec.{eqb}
+use lib.Dec.{eqb, ltb}
 use borrow.Author.Tests.{ne-eqb, eqb-true, eqb-false, not-false}
 use types.Run.{OneOf, miss}
 use denote.Enum.Declared.{tagOf}
 use Rattle.words.specs.Words.{bit}
-use Rattle.numbers.specs.Numbers.{Line, _gives_, numberOf, done, notEight, badSize, noKey}
+use Rattle.numbers.specs.Numbers.{Line, _gives_, numberOf, done, notEight, noBytes, tooMany, notAllowed, badSize, noKey}
 use Rattle.numbers.proofs.Laws.{declining, first-decides, rest-decides, line-false}
 use Rattle.keys.specs.Keys.{isKey, keyAt, acceptable}
 use Rattle.keys.proofs.Laws.{key-row, key-col, key-low}
 use Rattle.registers.specs.declared.Access.{Access}
-use Rattle.registers.specs.declared.Access.the-variants.{Write}
+use Rattle.registers.specs.declared.Access.the-variants.{Read, Write}
 use Rattle.registers.specs.declared.Register.{Register}
-use Rattle.registers.specs.declared.Register.the-variants.{KBDBOUNCE, KBDSIZE, KBDRIS, KBDMIS, KBDIC, KBDMSK, KBDCODE, EVTCODE, RSTINTCLR, Unknown}
+use Rattle.registers.specs.declared.Register.the-variants.{KBDBOUNCE, KBDSIZE, KBDRIS, KBDMIS, KBDIC, KBDMSK, KBDCODE, EVTCODE, RSTINTCLR, PIN, Unknown}
 use Rattle.registers.specs.Registers.{registerAt, _is_, address}
-use Rattle.registers.specs.Runs.{next}
+use Rattle.registers.specs.Runs.{next, runAllowed}
 use Rattle.registers.proofs.Register as Registers
-use Rattle.judge.specs.Lines.{high, sampleLines, accessLines, byteFits, sizesFit, writeLines, keyLines}
+use Rattle.judge.specs.Lines.{high, sampleLines, accessLines, byteFits, sizesFit, readLines, writeLines, keyLines}
 
 -- a number below twice a bit's weight, with that bit 0, is below the weight
 low15 : (x : ℕ) → x < 0x10000 → (x / 32768 % 2 ≡ 1 → ⊥) → x < 32768
@@ -62,7 +63,7 @@ module _ (x : ℕ) where
 
 -- the tags of all registers but KBDSIZE
 abbrev others : List ℕ
-others = 0 ∷ 2 ∷ 3 ∷ 4 ∷ 5 ∷ 6 ∷ 7 ∷ 8 ∷ 9 ∷ []
+others = 0 ∷ 2 ∷ 3 ∷ 4 ∷ 5 ∷ 6 ∷ 7 ∷ 8 ∷ 9 ∷ 10 ∷ []
 
 module _ (b : ℕ) where
   pub fits-size : (r : Register) → r ≡ KBDSIZE → byteFits r b ≡ acceptable b
@@ -80,6 +81,7 @@ module _ (b : ℕ) where
   fits-other (KBDCODE n) h = refl
   fits-other EVTCODE h = refl
   fits-other RSTINTCLR h = refl
+  fits-other (PIN a) h = refl
   fits-other Unknown h = refl
 
 module _ (a : ℕ) (bs : List ℕ) (i : ℕ) where
@@ -129,6 +131,13 @@ module _ (a : ℕ) (bs : List ℕ) where
   pub write-rest : numberOf first ≡ done → numberOf (writeLines a bs) ≡ numberOf last
   unfolding writeLines
   write-rest h = rest-decides first last (access-declines Write a (length bs)) h
+
+-- a read that is not declined may be done at each of its addresses
+pub read-allowed : (a n : ℕ) → numberOf (readLines a n) ≡ done → runAllowed Read a n ≡ true
+unfolding readLines accessLines
+read-allowed a n e =
+    not-false (runAllowed Read a n)
+    (line-false (eqb n 0 gives noBytes ∷ ltb 32 n gives tooMany ∷ []) (not (runAllowed Read a n)) notAllowed [] (access-declines Read a n) e)
 
 -- a row and a column that are not declined are those of a key
 pub key-there : (row col : ℕ) → numberOf (keyLines row col) ≡ done → keyAt row col < 104

@@ -3,9 +3,9 @@ use mathlib.Core.Bool.{Bool, true}
 use Rattle.numbers.proofs.Opened as numbers
 use Rattle.keys.proofs.Opened as keys
 use Rattle.registers.proofs.Opened as registers
-use Rattle.judge.specs.Lines.{high, sampleLines, accessLines, byteFits, sizesFit, readLines, writeLines, keyLines}
+use Rattle.judge.specs.Lines.{high, sampleLines, accessLines, byteFits, sizesFit, readLines, writeLines, keyLines, pinLines}
 
 unfoldable pub opened : Bool
 unfolding numbers.opened keys.opened registers.opened
-    high sampleLines accessLines byteFits sizesFit readLines writeLines keyLines
+    high sampleLines accessLines byteFits sizesFit readLines writeLines keyLines pinLines
 opened = true

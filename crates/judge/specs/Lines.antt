@@ -8,13 +8,14 @@
 --    readLines a n     all lines of a read
 --    writeLines a bs   all lines of a write of the bytes bs
 --    keyLines row col  7, for a question about the key in this row and column
+--    pinLines x        26, for the pin samples x
 use Prim.Native.Nat.{ℕ}
 use mathlib.Core.Bool.{Bool, true, not, _&&_, _||_}
 use mathlib.Core.List.{List, [], _∷_, _++_}
 use lib.ListN.{length}
-use lib.Dec.{eqb, ltb}
+use lib.Dec.{leb, eqb, ltb}
 use Rattle.words.specs.Words.{_if_, _else_, all, bit}
-use Rattle.numbers.specs.Numbers.{Line, _gives_, notEight, highBits, noBytes, tooMany, notAllowed, badSize, noKey}
+use Rattle.numbers.specs.Numbers.{Line, _gives_, notEight, highBits, noBytes, tooMany, notAllowed, badSize, noKey, badPins}
 use Rattle.keys.specs.Keys.{isKey, acceptable}
 use Rattle.registers.specs.declared.Access.{Access}
 use Rattle.registers.specs.declared.Access.the-variants.{Read, Write}
@@ -52,3 +53,7 @@ writeLines a bs = accessLines Write a (length bs) ++ (not (sizesFit a bs) gives 
 -- "row above 7 or column above 12"
 unfoldable pub keyLines : ℕ → ℕ → List Line
 keyLines row col = not (isKey row col) gives noKey ∷ []
+
+-- document 02, E6: "a pin sample with a bit above 18"
+unfoldable pub pinLines : ℕ → List Line
+pinLines x = leb 0x80000 x gives badPins ∷ []

@@ -8,7 +8,7 @@ ghost use mathlib.Core.Bool.{not};
 ghost use lib.ListN.{length};
 ghost use Rattle.words.specs.Words.{all};
 ghost use Rattle.numbers.specs.Numbers.{numberOf};
-ghost use Rattle.judge.specs.Lines.{high, sampleLines, accessLines, byteFits, sizesFit, readLines, writeLines, keyLines};
+ghost use Rattle.judge.specs.Lines.{high, sampleLines, accessLines, byteFits, sizesFit, readLines, writeLines, keyLines, pinLines};
 
 // Has no sample bit 13, 14 or 15 set?
 fn are_narrow(samples: &[u16]) -> bool
@@ -106,6 +106,16 @@ pub fn of_write(first: u16, bytes: &[u8]) -> u8
     }
     if !are_fit(first, bytes) {
         return numbers::BAD_SIZE;
+    }
+    numbers::DONE
+}
+
+// The number of pin samples, bit i for pin i: 0 or 26.
+pub fn of_pins(samples: u32) -> u8
+    ensures { λ r. ⌜ r ≡ numberOf (pinLines samples) ⌝ }
+{
+    if 0x80000 <= samples {
+        return numbers::BAD_PINS;
     }
     numbers::DONE
 }

@@ -69,6 +69,10 @@ badChange = 24
 abbrev pub insideGroup : ℕ
 insideGroup = 25
 
+-- "a pin sample with a bit above 18"
+abbrev pub badPins : ℕ
+badPins = 26
+
 infix 70 _gives_
 pub data Line : Type 0 where
   _gives_ : Bool → ℕ → Line

@@ -44,3 +44,6 @@ pub const BAD_CHANGE: u8 = 24;
 
 // Undo groups: the place is inside a group, or past the start of an open one.
 pub const INSIDE_GROUP: u8 = 25;
+
+// Pin samples: some bit above 18 is set.
+pub const BAD_PINS: u8 = 26;

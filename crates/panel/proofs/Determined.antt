@@ -1,7 +1,7 @@
 -- DETERMINED: two outcomes that the contract of an exported function allows for the same arguments are equal.
 --
 --    two-facts    what follows from two propositions follows from the assertions of both
---    look-determined, looks-determined, write-determined, read-determined, held-determined, interrupt-determined, reset-determined
+--    look-determined, looks-determined, write-determined, read-determined, held-determined, interrupt-determined, pins-determined, drive-determined, reset-determined
 --    pack-determined, add-determined, unpack-determined
 --
 -- An outcome is the result, x or y, and what everything lent to be altered holds at exit, e or f. Each theorem is on the clauses that the toolchain makes of the source
@@ -39,6 +39,8 @@ use Rattle.panel.proofs.panel_write as writes
 use Rattle.panel.proofs.panel_read as reads
 use Rattle.panel.proofs.panel_held as helds
 use Rattle.panel.proofs.panel_interrupt as lines
+use Rattle.panel.proofs.panel_pins as samples
+use Rattle.panel.proofs.panel_drive as drives
 
 module _ {M : Type 1} (𝓤 : URA M) where
   two-facts : (P Q R : Type 0) → (P → Q → R) → ent 𝓤 (conj 𝓤 (fact 𝓤 P) (fact 𝓤 Q)) (fact 𝓤 R)
@@ -76,6 +78,16 @@ module _ {M : Type 1} (𝓤 : URA M) (H : Heap 𝓤) (A : Atoms 𝓤) (at-mem : 
       → ent 𝓤 (conj 𝓤 (lines.clauses 𝓤 H A at-mem run κs a .ensures tt x e) (lines.clauses 𝓤 H A at-mem run κs a .ensures tt y f))
       (fact 𝓤 ((x ≡ y) × (now (e .1 .0) ≡ now (f .1 .0))))
   interrupt-determined κs a x y e f = two-facts 𝓤 _ _ _ (λ p q. (p .0 ∙ sym (q .0), p .1 ∙ sym (q .1)))
+
+  pub pins-determined : (κs : Lfts 1) (a : Args samples.signature κs) (x y : Res samples.signature κs) (e f : AtExit samples.ended κs)
+      → ent 𝓤 (conj 𝓤 (samples.clauses 𝓤 H A at-mem run κs a .ensures tt x e) (samples.clauses 𝓤 H A at-mem run κs a .ensures tt y f))
+      (fact 𝓤 ((x ≡ y) × (now (e .0) ≡ now (f .0))))
+  pins-determined κs a x y e f = two-facts 𝓤 _ _ _ (λ p q. (p .0 ∙ sym (q .0), p .1 ∙ sym (q .1)))
+
+  pub drive-determined : (κs : Lfts 3) (a : Args drives.signature κs) (x y : Res drives.signature κs) (e f : AtExit drives.ended κs)
+      → ent 𝓤 (conj 𝓤 (drives.clauses 𝓤 H A at-mem run κs a .ensures tt x e) (drives.clauses 𝓤 H A at-mem run κs a .ensures tt y f))
+      (fact 𝓤 ((x ≡ y) × (now (e .1 .0) ≡ now (f .1 .0)) × (now (e .1 .1 .0) ≡ now (f .1 .1 .0))))
+  drive-determined κs a x y e f = two-facts 𝓤 _ _ _ (λ p q. (p .0 ∙ sym (q .0), p .1 ∙ sym (q .1), p .2 ∙ sym (q .2)))
 
 pub reset-determined : (κs : Lfts 0) (a : Dens κs reset-kinds.ps) (x y : Done) (e f : AtExit (endedOf 0 reset-kinds.ps reset-kinds.r) κs) → resets.Post κs a x e → resets.Post κs a y f → x ≡ y
 reset-determined κs a x y e f p q = p ∙ sym q

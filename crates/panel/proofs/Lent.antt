@@ -4,22 +4,26 @@
 --    the-done, after-is, number-is    what a look or an access hands back: its module is one, and its number is a byte
 --    the-block, left-is, done-is, gave-is    what a block hands back: its module is one, how many were done is a word, and its number is a byte
 --    the-answer, told-is              what a question hands back: its number is a byte
+--    the-driven, asked-is, driven-is, level-is    what the question what is driven hands back: its number is a byte, and the pins are 32 bits
 -- Assumes nothing.
 use mathlib.Core.List.{[], _∷_}
-use mir.Syntax.{w8, w64}
+use mir.Syntax.{w8, w32, w64}
 use mir.Val.{vint}
 use denote.Laws.{Is}
-use denote.Builtin.{u8, usize}
+use denote.Builtin.{u8, u32, usize}
 use denote.Struct.Laws as LL
 use Rattle.calls.specs.declared.Done.{Done}
 use Rattle.calls.specs.declared.Answered.{Answered}
 use Rattle.calls.specs.declared.Block.{Block}
+use Rattle.calls.specs.declared.Driven.{Driven}
 use Rattle.state.proofs.Module as T
 use Rattle.state.proofs.Module.Laws as T′
 use Rattle.calls.proofs.Done as D
 use Rattle.calls.proofs.Done.Laws as D′
 use Rattle.calls.proofs.Block as B
 use Rattle.calls.proofs.Block.Laws as B′
+use Rattle.calls.proofs.Driven as N
+use Rattle.calls.proofs.Driven.Laws as N′
 use Rattle.calls.proofs.Answered as R
 use Rattle.calls.proofs.Answered.Laws as R′
 use Rattle.keys.proofs.Row as P
@@ -39,6 +43,9 @@ the-block = struct B.the-type B′.the-laws B′.the-plain B′.the-copy
 
 abbrev pub the-answer : Value R.the-row
 the-answer = struct R.the-type R′.the-laws R′.the-plain R′.the-copy
+
+abbrev pub the-driven : Value N.the-row
+the-driven = struct N.the-type N′.the-laws N′.the-plain N′.the-copy
 
 abbrev pub the-row : Value P.the-row
 the-row = struct P.the-type P′.the-laws P′.the-plain P′.the-copy
@@ -63,3 +70,12 @@ gave-is r is = LL.owed B.the-type B′.the-laws r _ is .1 .1 .0
 
 pub told-is : (r : Answered) → Is R.the-row r (the-answer .val r ∷ []) → Is u8 (r .number) (vint w8 (r .number) ∷ [])
 told-is r is = LL.owed R.the-type R′.the-laws r _ is .1 .0
+
+pub asked-is : (r : Driven) → Is N.the-row r (the-driven .val r ∷ []) → Is u8 (r .number) (vint w8 (r .number) ∷ [])
+asked-is r is = LL.owed N.the-type N′.the-laws r _ is .1 .0
+
+pub driven-is : (r : Driven) → Is N.the-row r (the-driven .val r ∷ []) → Is u32 (r .driven) (vint w32 (r .driven) ∷ [])
+driven-is r is = LL.owed N.the-type N′.the-laws r _ is .1 .1 .0
+
+pub level-is : (r : Driven) → Is N.the-row r (the-driven .val r ∷ []) → Is u32 (r .level) (vint w32 (r .level) ∷ [])
+level-is r is = LL.owed N.the-type N′.the-laws r _ is .1 .1 .1 .0

@@ -1,7 +1,7 @@
 -- THE EXPORTED FUNCTIONS ARE THE SOURCE: what the toolchain makes of the contracts in src/lib.rt is what specs/Lent.antt says, and for reset and what carries a session
 -- what the calls by value give.
 --
---    look-source, looks-source, write-source, read-source, held-source, interrupt-source, reset-source
+--    look-source, looks-source, write-source, read-source, held-source, interrupt-source, pins-source, drive-source, reset-source
 --    pack-source, add-source, unpack-source
 --
 -- `clauses` is the toolchain's own reading of a function's `ensures` and `requires` lines, and the function is proved to meet it. a are the arguments, x is the result,
@@ -27,7 +27,7 @@ use Rattle.carry.specs.declared.reader.Record.{Record}
 use Rattle.carry.specs.Calls.{callAt}
 use Rattle.carry.specs.Writer.{packCall, packBuffer, addCall, addBuffer}
 use Rattle.carry.specs.Reader.{recordAt}
-use Rattle.panel.specs.Lent.{LookLent, LooksLent, WriteLent, ReadLent, HeldLent, InterruptLent}
+use Rattle.panel.specs.Lent.{LookLent, LooksLent, WriteLent, ReadLent, HeldLent, InterruptLent, PinsLent, DriveLent}
 use Rattle.panel.specs.declared.Written.{Written}
 use Rattle.panel.specs.Written.{ofPacked, ofAdded}
 use Rattle.panel.proofs.panel_reset_value.Kinds as reset-kinds
@@ -44,6 +44,8 @@ use Rattle.panel.proofs.panel_write as writes
 use Rattle.panel.proofs.panel_read as reads
 use Rattle.panel.proofs.panel_held as helds
 use Rattle.panel.proofs.panel_interrupt as lines
+use Rattle.panel.proofs.panel_pins as samples
+use Rattle.panel.proofs.panel_drive as drives
 
 module _ {M : Type 1} (𝓤 : URA M) (H : Heap 𝓤) (A : Atoms 𝓤) (at-mem : Memory → SProp 𝓤) (run : Routine → Fun 𝓤) where
   pub look-source : (κs : Lfts 2) (a : Args looks.signature κs) (x : Res looks.signature κs) (e : AtExit looks.ended κs)
@@ -69,6 +71,14 @@ module _ {M : Type 1} (𝓤 : URA M) (H : Heap 𝓤) (A : Atoms 𝓤) (at-mem : 
   pub interrupt-source : (κs : Lfts 2) (a : Args lines.signature κs) (x : Res lines.signature κs) (e : AtExit lines.ended κs)
       → lines.clauses 𝓤 H A at-mem run κs a .ensures tt x e ≡ fact 𝓤 (InterruptLent (now (a .0)) x (now (e .1 .0)))
   interrupt-source κs a x e = refl
+
+  pub pins-source : (κs : Lfts 1) (a : Args samples.signature κs) (x : Res samples.signature κs) (e : AtExit samples.ended κs)
+      → samples.clauses 𝓤 H A at-mem run κs a .ensures tt x e ≡ fact 𝓤 (PinsLent (now (a .0)) (a .1 .0) x (now (e .0)))
+  pins-source κs a x e = refl
+
+  pub drive-source : (κs : Lfts 3) (a : Args drives.signature κs) (x : Res drives.signature κs) (e : AtExit drives.ended κs)
+      → drives.clauses 𝓤 H A at-mem run κs a .ensures tt x e ≡ fact 𝓤 (DriveLent (now (a .0)) x (now (e .1 .0)) (now (e .1 .1 .0)))
+  drive-source κs a x e = refl
 
 pub reset-source : (κs : Lfts 0) (a : Dens κs reset-kinds.ps) (x : Done) (e : AtExit (endedOf 0 reset-kinds.ps reset-kinds.r) κs) → resets.Post κs a x e → x ≡ resetCall
 reset-source κs a x e p = p

@@ -1,6 +1,6 @@
 -- TOTAL: the exported functions take every value. What the toolchain makes of a contract asks nothing of the arguments.
 --
---    look-total, looks-total, write-total, read-total, held-total, interrupt-total, reset-total
+--    look-total, looks-total, write-total, read-total, held-total, interrupt-total, pins-total, drive-total, reset-total
 --    pack-total, add-total, unpack-total
 -- Assumes nothing.
 use mathlib.Core.Path.{_≡_, refl}
@@ -29,6 +29,8 @@ use Rattle.panel.proofs.panel_write as writes
 use Rattle.panel.proofs.panel_read as reads
 use Rattle.panel.proofs.panel_held as helds
 use Rattle.panel.proofs.panel_interrupt as lines
+use Rattle.panel.proofs.panel_pins as samples
+use Rattle.panel.proofs.panel_drive as drives
 
 -- "1. The module takes every call, with every value"
 module _ {M : Type 1} (𝓤 : URA M) (H : Heap 𝓤) (A : Atoms 𝓤) (at-mem : Memory → SProp 𝓤) (run : Routine → Fun 𝓤) where
@@ -49,6 +51,12 @@ module _ {M : Type 1} (𝓤 : URA M) (H : Heap 𝓤) (A : Atoms 𝓤) (at-mem : 
 
   pub interrupt-total : (κs : Lfts 2) (a : Args lines.signature κs) → lines.clauses 𝓤 H A at-mem run κs a .requires tt ≡ connectives 𝓤 .⊤ₛ
   interrupt-total κs a = refl
+
+  pub pins-total : (κs : Lfts 1) (a : Args samples.signature κs) → samples.clauses 𝓤 H A at-mem run κs a .requires tt ≡ connectives 𝓤 .⊤ₛ
+  pins-total κs a = refl
+
+  pub drive-total : (κs : Lfts 3) (a : Args drives.signature κs) → drives.clauses 𝓤 H A at-mem run κs a .requires tt ≡ connectives 𝓤 .⊤ₛ
+  drive-total κs a = refl
 
 pub reset-total : (κs : Lfts 0) (a : Dens κs reset-kinds.ps) → resets.Pre κs a
 reset-total κs a = tt

@@ -1,4 +1,4 @@
--- What the six lent forms promise: the number, and what everything lent to be altered holds when the call returns.
+-- What the eight lent forms promise: the number, and what everything lent to be altered holds when the call returns.
 --
 --    LookLent m s number after              a look with samples s, lent the module m
 --    LooksLent m s number after done        a block of looks with samples s, of which so many are done
@@ -6,15 +6,17 @@
 --    ReadLent m a out number after bytes    a read at the address a into the buffer out, which then holds these bytes
 --    HeldLent m row col number answer       is the key at this row and column held? m is lent to be looked at only
 --    InterruptLent m number answer          is the interrupt line asserted? m is lent to be looked at only
+--    PinsLent m x number after              the pins are sampled
+--    DriveLent m number driven level        which pins are driven, and to what level? m is lent to be looked at only
 --
--- The contracts in src/ are these six lines, and proofs/Determined.antt says that each allows one outcome only.
+-- The contracts in src/ are these eight lines, and proofs/Determined.antt says that each allows one outcome only.
 use Prim.Native.Nat.{ℕ}
 use mathlib.Core.Path.{_≡_}
 use mathlib.Core.Bool.{Bool}
 use mathlib.Core.List.{List}
 use lib.ListN.{length}
 use Rattle.state.specs.declared.Module.{Module}
-use Rattle.calls.specs.Calls.{lookCall, writeCall, readCall, readBuffer, heldCall, interruptCall}
+use Rattle.calls.specs.Calls.{lookCall, writeCall, readCall, readBuffer, heldCall, interruptCall, pinsCall, driveCall}
 use Rattle.calls.specs.Blocks.{looksCall}
 
 abbrev pub LookLent : Module → List ℕ → ℕ → Module → Type 0
@@ -35,3 +37,9 @@ HeldLent m row col number answer = (number ≡ heldCall m row col .number) × (a
 
 abbrev pub InterruptLent : Module → ℕ → Bool → Type 0
 InterruptLent m number answer = (number ≡ interruptCall m .number) × (answer ≡ interruptCall m .yes)
+
+abbrev pub PinsLent : Module → ℕ → ℕ → Module → Type 0
+PinsLent m x number after = (number ≡ pinsCall m x .number) × (after ≡ pinsCall m x .after)
+
+abbrev pub DriveLent : Module → ℕ → ℕ → ℕ → Type 0
+DriveLent m number driven level = (number ≡ driveCall m .number) × (driven ≡ driveCall m .driven) × (level ≡ driveCall m .level)

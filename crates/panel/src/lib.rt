@@ -1,4 +1,4 @@
-// The face for C (include/panel.h): reset by value, five calls and blocks of looks over a module that is lent, and sessions carried, by value again.
+// The face for C (include/panel.h): reset by value, seven calls and blocks of looks over a module that is lent, and sessions carried, by value again.
 use calls::Done;
 use carry::reader::Record;
 use keys::Col;
@@ -10,7 +10,7 @@ ghost use Rattle.calls.specs.Calls.{resetCall};
 ghost use Rattle.carry.specs.Calls.{callAt};
 ghost use Rattle.carry.specs.Writer.{packCall, packBuffer, addCall, addBuffer};
 ghost use Rattle.carry.specs.Reader.{recordAt};
-ghost use Rattle.panel.specs.Lent.{LookLent, LooksLent, WriteLent, ReadLent, HeldLent, InterruptLent};
+ghost use Rattle.panel.specs.Lent.{LookLent, LooksLent, WriteLent, ReadLent, HeldLent, InterruptLent, PinsLent, DriveLent};
 ghost use Rattle.panel.specs.Written.{ofPacked, ofAdded};
 
 // One look; the module is altered where it is.
@@ -79,6 +79,27 @@ pub extern "C" fn panel_interrupt(m: &Module, yes: &mut bool) -> u8
 {
     let r = calls::interrupt(*m);
     *yes = r.yes;
+    r.number
+}
+
+// The pins are sampled, bit i for pin i; the module is altered where it is.
+#[no_mangle]
+pub extern "C" fn panel_pins(m: &mut Module, samples: u32) -> u8
+    ensures { λ r. ⌜ PinsLent (now (m .entry)) samples r (now (m .exit)) ⌝ }
+{
+    let r = calls::pins(*m, samples);
+    *m = r.after;
+    r.number
+}
+
+// Which pins are driven, and to what level? The module is lent to be looked at only.
+#[no_mangle]
+pub extern "C" fn panel_drive(m: &Module, driven: &mut u32, level: &mut u32) -> u8
+    ensures { λ r. ⌜ DriveLent (now (m .entry)) r (now (driven .exit)) (now (level .exit)) ⌝ }
+{
+    let r = calls::drive(*m);
+    *driven = r.driven;
+    *level = r.level;
     r.number
 }
 

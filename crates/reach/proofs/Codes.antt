@@ -36,7 +36,7 @@ use Rattle.judge.specs.Lines.{byteFits}
 use Rattle.sound.specs.Said.{Code}
 use Rattle.demands.specs.Shown.{run}
 use Rattle.reach.proofs.Samples.{samplesOf, Within, told-hidden}
-use Rattle.reach.proofs.Steps.{doable, Keys, none, Clear, clear-open, clear-one, look-to, look-full, look-one}
+use Rattle.reach.proofs.Steps.{possible, doable, Keys, none, Clear, clear-open, clear-one, look-to, look-full, look-one}
 
 pub twice : (b : Bool) → b ≡ not (not b)
 twice true = refl
@@ -102,7 +102,7 @@ pub begun : ℕ → Past
 begun z = wrote KBDSIZE z ∷ wrote KBDBOUNCE 1 ∷ []
 
 begun-can : (z : ℕ) → acceptable z ≡ true → doable (begun z) ≡ true
-unfolding begun doable byteFits _is_ address
+unfolding begun doable possible byteFits _is_ address
 begun-can z ok = let r = rows-most z ok in rw (le-leb z 255 (omega arith), ok)
 
 pub begin : (z : ℕ) → acceptable z ≡ true → (k : ℕ) → Keys (begun z) z 1 (lone k false) none []
@@ -137,7 +137,7 @@ turned past z k p w t l e n =
 
 module _ (past : Past) (z : ℕ) (h : ℕ → Bool) (w : List ℕ) (t : Keys past z 1 h none w) where
   pub got-code : Keys (got EVTCODE ∷ past) z 1 h none (drop 1 w)
-  unfolding doable all pictured size bounce held run history waiting porirq _is_ address
+  unfolding doable possible all pictured size bounce held run history waiting porirq _is_ address
   got-code =
       record {
         can = t .can;

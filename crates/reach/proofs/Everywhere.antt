@@ -1,16 +1,18 @@
--- THE DEMANDS COVER EVERY SOUND STATE, not only those after a list of calls that one has in hand.
+-- THE DEMANDS COVER EVERY SOUND STATE with the pins as after reset, not only those after a list of calls that one has in hand.
 --
---    sound-kept           a call leaves a sound state sound, whatever sound state it was
---    shows-everywhere     demand 2: every sound state shows what the sheet gives for some past that calls can make
---    codes-everywhere     demand 3: for some calls that reach it, the codes fetched by them and those that wait are the changes demanded, less those that came when 15 waited
+--    sound-kept           a call leaves a sound state sound, whatever sound state it was, and whatever its pins
+--    shows-everywhere     demand 2: every sound state, with the pins as after reset, shows what the sheet gives for some past that calls can make
+--    codes-everywhere     demand 3: for some calls that reach such a state, the codes fetched by them and those that wait are the changes demanded, less those that came when 15 waited
 -- Assumes nothing.
 use mathlib.Core.Path.{_≡_, sym, ap, _∙_, subst}
 use mathlib.Core.Bool.{true}
 use mathlib.Core.List.{List, _∷_, _++_}
 use Rattle.words.proofs.Laws.{all-cons}
+use Rattle.pins.specs.Pins as pins
 use Rattle.sheet.specs.Sheet.{Past}
 use Rattle.sheet.specs.Ledger.{kept, arrivals}
 use Rattle.state.specs.declared.Module.{Module}
+use Rattle.state.specs.Module.{keypad}
 use Rattle.state.specs.Typed.{Typed}
 use Rattle.sound.specs.Said.{Said}
 use Rattle.demands.specs.Machine as machine
@@ -20,6 +22,7 @@ use Rattle.demands.specs.Shown.{fitting}
 use Rattle.demands.proofs.Reached.{reached-fitting}
 use Rattle.demands.proofs.Meets.{ours-demand2, ours-demand3}
 use Rattle.reach.specs.Reach.{callable, ReachedBy, Shows}
+use Rattle.reach.proofs.Apart.{typed-apart, said-apart, pins-apart}
 use Rattle.reach.proofs.Calls.{types-fit, reached-by}
 use Rattle.reach.proofs.Exactly.{back}
 
@@ -30,10 +33,17 @@ next-reached m c f r =
     record { calls = c ∷ r .calls; types = all-cons callable c (r .calls) f (r .types); there = ap (λ (x : Module). called x c .next) (r .there) }
 
 pub sound-kept : (m : Module) (c : Call) → Typed m → Said m → callable c ≡ true → Typed (called m c .next) × Said (called m c .next)
-sound-kept m c y e f = back (called m c .next) (next-reached m c f (reached-by m y e))
+sound-kept m c y e f =
+    let x = called m c .next in
+    let z = called (keypad m) c .next in
+    let k = back z (next-reached (keypad m) c f (reached-by m y e)) in
+    let same = sym (pins-apart m c) in (
+      typed-apart (keypad x) (x .pins) (subst Typed same (typed-apart z pins.fresh (k .0))),
+      said-apart (keypad x) (x .pins) (subst Said same (said-apart z pins.fresh (k .1))),
+    )
 
 -- ---- demand 2
-pub shows-everywhere : (m : Module) → Typed m → Said m → (past : Past) × ((fitting past ≡ true) × Shows m past)
+pub shows-everywhere : (m : Module) → Typed m → Said m → (past : Past) × ((fitting past ≡ true) × Shows (keypad m) past)
 shows-everywhere m y e =
     let r = reached-by m y e in
     let cs = r .calls in
@@ -42,7 +52,7 @@ shows-everywhere m y e =
     (done ours cs, (reached-fitting cs t, subst (λ (x : Module). Shows x (done ours cs)) (r .there) there))
 
 -- ---- demand 3
-pub codes-everywhere : (m : Module) → Typed m → Said m → (cs : List Call) × ((machine.after ours cs ≡ m) × (fetched ours cs ++ seen ours m ≡ kept (arrivals (done ours cs))))
+pub codes-everywhere : (m : Module) → Typed m → Said m → (cs : List Call) × ((machine.after ours cs ≡ keypad m) × (fetched ours cs ++ seen ours (keypad m) ≡ kept (arrivals (done ours cs))))
 codes-everywhere m y e =
     let r = reached-by m y e in
     let cs = r .calls in

@@ -1,17 +1,21 @@
--- SOUND IS REACHED, no more and no less: a state of the struct's type is sound exactly when calls from reset reach it.
+-- SOUND IS REACHED, no more and no less: a state of the struct's type is sound exactly when calls from reset reach the one with its keypad, and the pins as after reset.
 --
---    reached-by (proofs/Calls.antt)    a sound state is reached
+--    reached-by (proofs/Calls.antt)    that state is reached, if the given one is sound
 --    back             a reached state is sound, and of the struct's type
---    unreached        a state that isn't sound is reached by no calls; unsound: one that no calls reach isn't sound
---    least            a test that never fails after calls from reset holds of every sound state
+--    sound-is-reached    both, as specs/Reach.antt has them
+--    reached-itself   a sound state whose pins are as after reset is reached itself
+--    unreached        a state that isn't sound is reached by no calls; unsound: one whose keypad no calls reach isn't sound
+--    least            a test that never fails after calls from reset holds of every sound state with the pins as after reset
 --    onward           calls from a state that others reach are calls that come later
---    from-sound       so calls from a sound state are calls from reset that come later
+--    from-sound       so calls from a sound state with such pins are calls from reset that come later
 -- Assumes nothing.
 use mathlib.Core.Path.{_≡_, refl, sym, ap, _∙_, subst}
 use mathlib.Core.Bool.{Bool, true}
 use mathlib.Core.List.{List, [], _∷_, _++_}
 use Rattle.words.specs.Words.{all}
+use Rattle.pins.specs.Pins as pins
 use Rattle.state.specs.declared.Module.{Module}
+use Rattle.state.specs.Module.{keypad}
 use Rattle.state.specs.Typed.{Typed}
 use Rattle.sound.specs.Said.{Said}
 use Rattle.demands.specs.Machine as machine
@@ -19,7 +23,8 @@ use Rattle.demands.specs.Machine.{Call, Machine}
 use Rattle.demands.specs.Table.{Unsound}
 use Rattle.demands.specs.Ours.{ours}
 use Rattle.demands.proofs.Reached.{reached-typed, reached-said}
-use Rattle.reach.specs.Reach.{callable, ReachedBy, afterFrom}
+use Rattle.reach.specs.Reach.{callable, ReachedBy, SoundIsReached, afterFrom}
+use Rattle.reach.proofs.Apart.{as-after-reset}
 use Rattle.reach.proofs.Calls.{types-fit, reached-by, of-every}
 
 -- ---- "Number 8 is given exactly otherwise, and never for a state reached by calls from reset."
@@ -28,14 +33,20 @@ back m r =
     let fit = types-fit (r .calls) (r .types) in
     (subst Typed (r .there) (reached-typed (r .calls) fit), subst Said (r .there) (reached-said (r .calls) fit))
 
+pub sound-is-reached : SoundIsReached
+sound-is-reached = record { reached = reached-by; sound = back }
+
+pub reached-itself : (m : Module) → m .pins ≡ pins.fresh → Typed m → Said m → ReachedBy m
+reached-itself m p t s = subst ReachedBy (as-after-reset m p) (reached-by m t s)
+
 pub unreached : (m : Module) → Unsound m → ReachedBy m → ⊥
 unreached m n r = n (back m r .1)
 
-pub unsound : (m : Module) → Typed m → (ReachedBy m → ⊥) → Unsound m
+pub unsound : (m : Module) → Typed m → (ReachedBy (keypad m) → ⊥) → Unsound m
 unsound m t n s = n (reached-by m t s)
 
 -- ---- no test that all reached states pass is stricter
-pub least : (other : Module → Bool) → ((cs : List Call) → all callable cs ≡ true → other (machine.after ours cs) ≡ true) → (m : Module) → Typed m → Said m → other m ≡ true
+pub least : (other : Module → Bool) → ((cs : List Call) → all callable cs ≡ true → other (machine.after ours cs) ≡ true) → (m : Module) → Typed m → Said m → other (keypad m) ≡ true
 least other never = of-every (λ m. other m ≡ true) never
 
 -- ---- calls from a given state on, newest first
@@ -44,7 +55,7 @@ unfolding afterFrom machine.after
 onward M [] before = refl
 onward M (c ∷ cs) before = ap (λ (σ : M .State). M .does σ c .next) (onward M cs before)
 
-pub from-sound : (m : Module) → Typed m → Said m → (before : List Call) × ((all callable before ≡ true) × ((cs : List Call) → afterFrom ours m cs ≡ machine.after ours (cs ++ before)))
+pub from-sound : (m : Module) → Typed m → Said m → (before : List Call) × ((all callable before ≡ true) × ((cs : List Call) → afterFrom ours (keypad m) cs ≡ machine.after ours (cs ++ before)))
 from-sound m t s =
     let r = reached-by m t s in
     (r .calls, (r .types, λ cs. ap (λ (x : Module). afterFrom ours x cs) (sym (r .there)) ∙ onward ours cs (r .calls)))

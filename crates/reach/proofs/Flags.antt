@@ -30,7 +30,7 @@ use Rattle.sheet.specs.Sheet.{Past, looked, wrote, got, cleared, bounce, size, 
 use Rattle.judge.specs.Lines.{byteFits}
 use Rattle.demands.specs.Shown.{run}
 use Rattle.reach.proofs.Samples.{samplesOf, Within, told-hidden}
-use Rattle.reach.proofs.Steps.{doable, Keys, none, Clear, clear-open, clear-one, look-full, look-one}
+use Rattle.reach.proofs.Steps.{possible, doable, Keys, none, Clear, clear-open, clear-one, look-full, look-one}
 use Rattle.reach.proofs.Codes.{twice, put, put-at, put-else, put-within, first-in, Waits}
 
 pub record Flags (past : Past) (rs rk re : Bool) (l : List ℕ) : Type 0 where
@@ -139,14 +139,14 @@ module _ (z : ℕ) (size-ok : acceptable z ≡ true) (h : ℕ → Bool) (h-ok : 
   -- ---- KBDIC
   module _ (g : ℕ → Bool) (rs rk re : Bool) (l : List ℕ) where
     clear-01 : (past : Past) → Keys past z 1 g none w × Flags past rs rk re l → Keys (wrote KBDIC 1 ∷ past) z 1 g none w × Flags (wrote KBDIC 1 ∷ past) false false re l
-    unfolding doable byteFits _is_ address size bounce held run history waiting porirq rsint rklint relint marks cleared without bit
+    unfolding doable possible byteFits _is_ address size bounce held run history waiting porirq rsint rklint relint marks cleared without bit
     clear-01 past (t, f) = (
       record { can = t .can; its-size = t .its-size; its-bounce = t .its-bounce; its-held = t .its-held; its-run = t .its-run; its-waiting = t .its-waiting; its-porirq = t .its-porirq },
       record { its-rsint = refl; its-rklint = refl; its-relint = f .its-relint; its-marks = f .its-marks },
     )
 
     clear-2 : (past : Past) → Keys past z 1 g none w × Flags past rs rk re l → Keys (wrote KBDIC 2 ∷ past) z 1 g none w × Flags (wrote KBDIC 2 ∷ past) rs rk false l
-    unfolding doable byteFits _is_ address size bounce held run history waiting porirq rsint rklint relint marks cleared without bit
+    unfolding doable possible byteFits _is_ address size bounce held run history waiting porirq rsint rklint relint marks cleared without bit
     clear-2 past (t, f) = (
       record { can = t .can; its-size = t .its-size; its-bounce = t .its-bounce; its-held = t .its-held; its-run = t .its-run; its-waiting = t .its-waiting; its-porirq = t .its-porirq },
       record { its-rsint = f .its-rsint; its-rklint = f .its-rklint; its-relint = refl; its-marks = f .its-marks },
@@ -155,7 +155,7 @@ module _ (z : ℕ) (size-ok : acceptable z ≡ true) (h : ℕ → Bool) (h-ok : 
 -- ---- the picture's registers read
 module _ (z d : ℕ) (h : ℕ → Bool) (r : ℕ → ℕ) (w : List ℕ) (rs rk re : Bool) (l : List ℕ) where
   got-keys : (past : Past) (n : ℕ) → ltb n 4 ≡ true → Keys past z d h r w → Keys (got (KBDCODE n) ∷ past) z d h r w
-  unfolding doable all pictured _is_ address size bounce held run history waiting porirq
+  unfolding doable possible all pictured _is_ address size bounce held run history waiting porirq
   got-keys past n low t = record { can = rw low (t .can); its-size = t .its-size; its-bounce = t .its-bounce; its-held = t .its-held; its-run = t .its-run; its-waiting = t .its-waiting; its-porirq = t .its-porirq }
 
   mark-one : (n : ℕ) → ltb n 4 ≡ true → allRead (n ∷ l) ≡ false → Known z d h r w rs rk re l → Known z d h r w rs rk re (n ∷ l)
@@ -213,7 +213,7 @@ module _ (z : ℕ) (size-ok : acceptable z ≡ true) (h : ℕ → Bool) (h-ok : 
 -- ---- the codes before those wanted are fetched
 module _ (z d : ℕ) (h : ℕ → Bool) (r : ℕ → ℕ) (rs rk re : Bool) where
   fetch : (c : ℕ) (w : List ℕ) → Known z d h r (c ∷ w) rs rk re [] → Known z d h r w rs rk re []
-  unfolding doable all _is_ address size bounce held run history waiting porirq rsint rklint relint marks pictured allRead among
+  unfolding doable possible all _is_ address size bounce held run history waiting porirq rsint rklint relint marks pictured allRead among
   fetch c w (past, (t, f)) =
       let e : allRead (marks past) ≡ false = ap allRead (f .its-marks) in (
         got EVTCODE ∷ past,

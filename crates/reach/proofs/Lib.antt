@@ -4,6 +4,7 @@ pub mod Codes
 pub mod Flags
 pub mod Runs
 pub mod Only
+pub mod Apart
 pub mod Calls
 pub mod Exactly
 pub mod Everywhere

@@ -1,9 +1,9 @@
--- EVERY SOUND STATE IS ONE THAT THE SHEET WRITES DOWN, for a past that calls can make.
+-- EVERY SOUND STATE'S KEYPAD, with the pins as after reset, is one that the sheet writes down, for a past that calls can make.
 --
 --    marked-seen   the marks, as the state's four
 --    same-shown    the sheet's state, field by field
 --    codes         the codes that wait; known: and all else but KBDMSK and PORIRQ
---    only          THE WHOLE STATE
+--    only          THE WHOLE STATE, but for the pins
 -- Assumes nothing.
 use Prim.Native.Nat.{ℕ, _+_, _*_, _/_, _%_, _-_, _≤_, _<_}
 use native.Mathlib.Omega.{arith}
@@ -22,6 +22,7 @@ use Rattle.sheet.specs.Sheet as sheet
 use Rattle.sheet.specs.Sheet.{Past, wrote, cleared, bounce, size, mask, history, held, waiting, relint, marks, rsint, rklint, porirq}
 use Rattle.judge.specs.Lines.{byteFits}
 use Rattle.state.specs.declared.Module.{Module}
+use Rattle.state.specs.Module.{keypad}
 use Rattle.state.specs.Typed.{Typed}
 use Rattle.picture.specs.Picture.{allRead}
 use Rattle.sound.specs.Sound.{sound}
@@ -31,7 +32,7 @@ use Rattle.sound.proofs.Exactly.{said-sound}
 use Rattle.demands.specs.Shown.{run, places, shown}
 use Rattle.demands.proofs.Bytes.{seen-all}
 use Rattle.reach.proofs.Samples.{Within}
-use Rattle.reach.proofs.Steps.{doable, none}
+use Rattle.reach.proofs.Steps.{possible, doable, no-pins, none}
 use Rattle.reach.proofs.Codes.{Waits, filled, told-code, all-more}
 use Rattle.reach.proofs.Flags.{Known, any-flags, fetch-all, marked, any-marks}
 use Rattle.reach.proofs.Runs.{bounced, any-runs}
@@ -68,10 +69,10 @@ marked-seen false false false false = refl
 same-shown : (past : Past) (m : Module) → table (λ k. held k past) 104 ≡ m .held → table (λ k. run k past) 104 ≡ m .run
     → places (waiting past) ≡ m .queue → length (waiting past) ≡ m .count → bounce past ≡ m .bounce → size past ≡ m .size → mask past ≡ m .mask
     → rsint past ≡ m .rsint → rklint past ≡ m .rklint → relint past ≡ m .relint → porirq past ≡ m .porirq → table (λ n. among n (marks past)) 4 ≡ m .seen
-    → shown past ≡ m
+    → doable past ≡ true → shown past ≡ keypad m
 unfolding shown
-same-shown past m h r q c b z k rs rk re p s =
-    λ i. record { held = h i; run = r i; queue = q i; count = c i; bounce = b i; size = z i; mask = k i; rsint = rs i; rklint = rk i; relint = re i; porirq = p i; seen = s i }
+same-shown past m h r q c b z k rs rk re p s d =
+    λ i. record { held = h i; run = r i; queue = q i; count = c i; bounce = b i; size = z i; mask = k i; rsint = rs i; rklint = rk i; relint = re i; porirq = p i; seen = s i; pins = no-pins past d i }
 
 module _ (m : Module) (y : Typed m) (s : Said m) where
   good : sound m ≡ true
@@ -156,30 +157,32 @@ module _ (m : Module) (y : Typed m) (s : Said m) where
           (any-flags (m .size) (s .size) h h-ok (j ++ w) n (m .rsint) (m .rklint) (m .relint) t))))
 
   -- KBDMSK, and RSTINTCLR if PORIRQ is to be clear
-  ended : (b : Bool) → b ≡ m .porirq → Known (m .size) (m .bounce) h r w (m .rsint) (m .rklint) (m .relint) l → (past : Past) × ((doable past ≡ true) × (shown past ≡ m))
-  unfolding doable byteFits _is_ address bounce size mask held run history waiting relint marks rsint rklint porirq cleared without bit h r
+  ended : (b : Bool) → b ≡ m .porirq → Known (m .size) (m .bounce) h r w (m .rsint) (m .rklint) (m .relint) l → (past : Past) × ((doable past ≡ true) × (shown past ≡ keypad m))
+  unfolding doable possible byteFits _is_ address bounce size mask held run history waiting relint marks rsint rklint porirq cleared without bit h r
   ended true e (past, (t, f)) =
       let low = s .mask in
-      let past′ : Past = wrote KBDMSK (m .mask) ∷ past in (
+      let past′ : Past = wrote KBDMSK (m .mask) ∷ past in
+      let can : doable past′ ≡ true = rw (le-leb (m .mask) 255 (omega arith)) (t .can) in (
         past′,
         (
-          rw (le-leb (m .mask) 255 (omega arith)) (t .can),
+          can,
           same-shown past′ m (by-table false (λ k. held k past′) 104 (m .held) (y .keys) (t .its-held)) (by-table 0 (λ k. run k past′) 104 (m .run) (y .runs) (t .its-run))
               (ap places (t .its-waiting) ∙ w-places) (ap length (t .its-waiting) ∙ w-long) (t .its-bounce) (t .its-size) (omega arith)
-              (f .its-rsint) (f .its-rklint) (f .its-relint) (t .its-porirq ∙ e) (ap (λ (x : List ℕ). table (λ n. among n x) 4) (f .its-marks) ∙ l-seen),
+              (f .its-rsint) (f .its-rklint) (f .its-relint) (t .its-porirq ∙ e) (ap (λ (x : List ℕ). table (λ n. among n x) 4) (f .its-marks) ∙ l-seen) can,
         ),
       )
   ended false e (past, (t, f)) =
       let low = s .mask in
-      let past′ : Past = wrote RSTINTCLR 1 ∷ wrote KBDMSK (m .mask) ∷ past in (
+      let past′ : Past = wrote RSTINTCLR 1 ∷ wrote KBDMSK (m .mask) ∷ past in
+      let can : doable past′ ≡ true = rw (le-leb (m .mask) 255 (omega arith)) (t .can) in (
         past′,
         (
-          rw (le-leb (m .mask) 255 (omega arith)) (t .can),
+          can,
           same-shown past′ m (by-table false (λ k. held k past′) 104 (m .held) (y .keys) (t .its-held)) (by-table 0 (λ k. run k past′) 104 (m .run) (y .runs) (t .its-run))
               (ap places (t .its-waiting) ∙ w-places) (ap length (t .its-waiting) ∙ w-long) (t .its-bounce) (t .its-size) (omega arith)
-              (f .its-rsint) (f .its-rklint) (f .its-relint) e (ap (λ (x : List ℕ). table (λ n. among n x) 4) (f .its-marks) ∙ l-seen),
+              (f .its-rsint) (f .its-rklint) (f .its-relint) e (ap (λ (x : List ℕ). table (λ n. among n x) 4) (f .its-marks) ∙ l-seen) can,
         ),
       )
 
-  pub only : (past : Past) × ((doable past ≡ true) × (shown past ≡ m))
+  pub only : (past : Past) × ((doable past ≡ true) × (shown past ≡ keypad m))
   only = ended (m .porirq) refl known

@@ -38,13 +38,13 @@ use Rattle.sheet.proofs.Contacts.{contactOf}
 use Rattle.judge.specs.Lines.{byteFits}
 use Rattle.demands.specs.Shown.{run}
 use Rattle.reach.proofs.Samples.{samplesOf, Within, told-hidden}
-use Rattle.reach.proofs.Steps.{doable, Keys, none, calm, unseen, slow, look-can, known-made, no-changes}
+use Rattle.reach.proofs.Steps.{possible, doable, Keys, none, calm, unseen, slow, look-can, known-made, no-changes}
 use Rattle.reach.proofs.Flags.{Flags, Known}
 
 -- ---- KBDBOUNCE written
 module _ (z d : ℕ) (h : ℕ → Bool) (r : ℕ → ℕ) (w : List ℕ) (rs rk re : Bool) (l : List ℕ) where
   pub bounced : (b : ℕ) → b ≤ 255 → Known z d h r w rs rk re l → Known z b h r w rs rk re l
-  unfolding doable byteFits _is_ address size bounce held run history waiting porirq rsint rklint relint marks cleared
+  unfolding doable possible byteFits _is_ address size bounce held run history waiting porirq rsint rklint relint marks cleared
   bounced b low (past, (t, f)) = (
     wrote KBDBOUNCE b ∷ past,
     (

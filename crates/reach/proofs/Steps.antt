@@ -1,6 +1,8 @@
 -- ONE LOOK MORE, on the sheet: under KBDBOUNCE 1, where every key that is not hidden is at once as its sample says.
 --
---    doable past      every happening is one that a call can make
+--    possible x       a call can make the happening x, and it is none of the pins
+--    doable past      so it is with every happening; doable-before: with those before it too
+--    no-pins          the pins are then as after reset
 --    Keys past ..     what is known of a past: the size, KBDBOUNCE, the keys, the runs, the queue, and that PORIRQ is set
 --    none             the run of every key is 0
 --    quick, slow      a look at a contact under KBDBOUNCE 1, its run being 0, and under 255 while its run is below 254
@@ -25,26 +27,76 @@ use borrow.Author.Tests.{eq-eqb}
 use lib.Dec.{eqb, leb, ltb}
 use lib.ListN.{length, take}
 use Rattle.words.specs.Words.{all}
-use Rattle.words.proofs.Laws.{true-false, and-right}
+use Rattle.words.proofs.Laws.{true-false, and-left, and-right}
 use Rattle.words.proofs.Lists.{take-room}
 use Rattle.keys.specs.Keys.{colOf, code, sample, special, hidden}
 use Rattle.keys.proofs.Laws.{special-low, special-col}
 use Rattle.contact.specs.declared.Contact.{Contact}
 use Rattle.contact.specs.Contact.{opposite, sampled, stepped, sightOf}
 use Rattle.contact.proofs.Laws.{hidden-keeps, opposite-flips, opposite-stays, reached, ahead}
-use Rattle.registers.specs.Registers.{canRead, canWrite, pictured}
-use Rattle.sheet.specs.Sheet.{Past, looked, wrote, got, bounce, size, held, changed, change, changesBelow, changes, waiting, porirq}
+use Rattle.pins.specs.Pins as pins
+use Rattle.registers.specs.declared.Register.{Register}
+use Rattle.registers.specs.declared.Register.the-variants.{KBDBOUNCE, KBDSIZE, KBDRIS, KBDMIS, KBDIC, KBDMSK, KBDCODE, EVTCODE, RSTINTCLR, PIN, Unknown}
+use Rattle.registers.specs.Registers.{canRead, canWrite, _is_, address, pictured, _isPin_}
+use Rattle.sheet.specs.Sheet.{Happening, Past, looked, wrote, got, beside, bounce, size, held, changed, change, changesBelow, changes, waiting, porirq, keptAt, pinSamples, newest, pending}
 use Rattle.sheet.proofs.Contacts.{contactOf, contact-right}
 use Rattle.judge.specs.Lines.{high, byteFits}
-use Rattle.demands.specs.Shown.{run}
+use Rattle.state.specs.declared.Module.{Module}
+use Rattle.state.specs.Module.{fresh}
+use Rattle.demands.specs.Shown.{run, pinsShown, shown}
+use Rattle.demands.proofs.Simulation.{reset-shown}
 use Rattle.reach.proofs.Samples.{samplesOf, Within, told, told-hidden, eight, narrow, u16s}
 
--- each happening is one that a call can make
+-- ---- the pasts by which a state is reached
+-- a register of the keypad
+abbrev pub ofKeys : Register → Bool
+ofKeys r = not (r is PIN 0x91)
+
+unfoldable pub possible : Happening → Bool
+possible (looked s) = eqb (length s) 8 && all (λ x. not (high x)) s && all (λ x. ltb x 0x10000) s
+possible (wrote r b) = leb b 0xFF && byteFits r b && canWrite r && ofKeys r
+possible (got r) = canRead r && all (λ n. ltb n 4) (pictured r) && ofKeys r
+possible (beside e) = false
+
 unfoldable pub doable : Past → Bool
 doable [] = true
-doable (looked s ∷ past) = eqb (length s) 8 && all (λ x. not (high x)) s && all (λ x. ltb x 0x10000) s && doable past
-doable (wrote r b ∷ past) = leb b 0xFF && byteFits r b && canWrite r && doable past
-doable (got r ∷ past) = canRead r && all (λ n. ltb n 4) (pictured r) && doable past
+doable (x ∷ past) = possible x && doable past
+
+module _ (x : Happening) (past : Past) (e : doable (x ∷ past) ≡ true) where
+  pub doable-last : possible x ≡ true
+  unfolding doable
+  doable-last = and-left (possible x) (doable past) e
+
+  pub doable-before : doable past ≡ true
+  unfolding doable
+  doable-before = and-right (possible x) (doable past) e
+
+-- a byte for the keypad
+wrote-none : (r : Register) (b : ℕ) (past : Past) → ofKeys r ≡ true → pinsShown (wrote r b ∷ past) ≡ pinsShown past
+unfolding pinsShown keptAt pinSamples newest pending _is_ address _isPin_
+wrote-none KBDBOUNCE b past o = refl
+wrote-none KBDSIZE b past o = refl
+wrote-none KBDRIS b past o = refl
+wrote-none KBDMIS b past o = refl
+wrote-none KBDIC b past o = refl
+wrote-none KBDMSK b past o = refl
+wrote-none (KBDCODE n) b past o = refl
+wrote-none EVTCODE b past o = refl
+wrote-none RSTINTCLR b past o = refl
+wrote-none (PIN a) b past o = true-false (sym o)
+wrote-none Unknown b past o = refl
+
+possible-none : (x : Happening) (past : Past) → possible x ≡ true → pinsShown (x ∷ past) ≡ pinsShown past
+unfolding possible pinsShown keptAt pinSamples newest pending
+possible-none (looked s) past e = refl
+possible-none (wrote r b) past e = wrote-none r b past (and-right (leb b 0xFF && byteFits r b && canWrite r) (ofKeys r) e)
+possible-none (got r) past e = refl
+possible-none (beside x) past e = true-false (sym e)
+
+pub no-pins : (past : Past) → doable past ≡ true → pinsShown past ≡ pins.fresh
+unfolding fresh shown
+no-pins [] e = sym (ap (λ (m : Module). m .pins) reset-shown)
+no-pins (x ∷ past) e = possible-none x past (doable-last x past e) ∙ no-pins past (doable-before x past e)
 
 -- what is known of a past: the settings, the keys, the queue
 pub record Keys (past : Past) (z d : ℕ) (h : ℕ → Bool) (r : ℕ → ℕ) (w : List ℕ) : Type 0 where
@@ -120,7 +172,7 @@ module _ (s : List ℕ) (past : Past) where
 
 -- ---- a look, by the keys that it closes
 pub look-can : (f : ℕ → Bool) (past : Past) → doable past ≡ true → doable (looked (samplesOf f) ∷ past) ≡ true
-unfolding doable
+unfolding doable possible
 look-can f past e = rw (eq-eqb (length (samplesOf f)) 8 (eight f), narrow f, u16s f) e
 
 module _ (past : Past) (z d : ℕ) (h : ℕ → Bool) (r : ℕ → ℕ) (w : List ℕ) (t : Keys past z d h r w) (f : ℕ → Bool) (ok : Within z f) (k : ℕ) (l : k < 104) where

@@ -1,7 +1,9 @@
--- What is meant by: a state is reached by calls from reset.
+-- What is meant by: a state is reached by calls from reset. Every sound state is, but for its pins: calls reach the one with its keypad, and the pins as after reset.
+-- Not every state of the pins is reached, and soundness asks nothing of them: no size frees pins 0, 1, 8 and 9, so their edges are never pending after calls.
 --
---    callable c         the values of a call are of their types: samples u16; addresses, bytes, rows and columns u8
+--    callable c         the values of a call are of their types: samples u16, of pins u32; addresses, bytes, rows and columns u8
 --    ReachedBy m        calls from reset that end in the state m
+--    SoundIsReached     THE THEOREM: of every sound state the keypad is reached, with the pins as after reset; and what is reached is sound
 --    Shows m past       demand 2 of one state: its bytes, held keys and line are the sheet's for a past
 --    afterFrom M σ cs   the state after calls, newest first, that begin in the state σ
 use Prim.Native.Nat.{ℕ, _+_, _*_, _≤_}
@@ -14,7 +16,10 @@ use Rattle.words.specs.Words.{all}
 use Rattle.sheet.specs.Sheet as sheet
 use Rattle.sheet.specs.Sheet.{Past}
 use Rattle.state.specs.declared.Module.{Module}
-use Rattle.demands.specs.Machine.{Call, reset, look, write, read, held, interrupt, Machine, after}
+use Rattle.state.specs.Module.{keypad}
+use Rattle.state.specs.Typed.{Typed}
+use Rattle.sound.specs.Said.{Said}
+use Rattle.demands.specs.Machine.{Call, reset, look, write, read, held, interrupt, pins, Machine, after}
 use Rattle.demands.specs.Demands.{bytesOf}
 use Rattle.demands.specs.Ours.{called, ours}
 
@@ -25,12 +30,18 @@ callable (write a bs) = ltb a 256 && all (λ b. ltb b 256) bs
 callable (read a out) = ltb a 256 && all (λ b. ltb b 256) out
 callable (held row col) = ltb row 256 && ltb col 256
 callable interrupt = true
+callable (pins x) = ltb x 0x100000000
 
 pub record ReachedBy (m : Module) : Type 0 where
   -- newest first
   pub calls : List Call
   pub types : all callable calls ≡ true
   pub there : after ours calls ≡ m
+
+-- `keypad m` is m itself if its pins are as after reset
+pub record SoundIsReached : Type 0 where
+  pub reached : (m : Module) → Typed m → Said m → ReachedBy (keypad m)
+  pub sound : (m : Module) → ReachedBy m → Typed m × Said m
 
 pub record Shows (m : Module) (past : Past) : Type 0 where
   pub bytes : (a : ℕ) (out : List ℕ) → called m (read a out) .number ≡ 0 → called m (read a out) .buffer ≡ bytesOf a (length out) past

@@ -1,1 +1,1 @@
-// Every sound state is reached. There is no code here.
+// Every sound state is reached, but for its pins. There is no code here.

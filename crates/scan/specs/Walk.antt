@@ -8,8 +8,8 @@
 --    atRow d size x row p n       the parts p after the row's keys in columns below n
 --    atRows d size s p n          the parts p after the rows below n, s being the samples
 --    Altered, altered h r q rs rk seen    all that a look can alter: the parts, but for whether a key has changed, and the flags and marks
---    whole d size a mask porirq   the module that has these
---    LookedOn d size s a b        a look with the samples s makes b of a, whatever the mask and PORIRQ, which it neither asks nor alters
+--    whole d size a mask porirq pins   the module that has these
+--    LookedOn d size s a b        a look with the samples s makes b of a, whatever the mask, PORIRQ and the pins, which it neither asks nor alters
 --    Still size held run          every key out of the size is open and has no run, and there are at most 8 rows
 use Prim.Native.Nat.{ℕ, zero, suc, _+_, _*_, _/_, _≤_, _<_}
 use mathlib.Core.Path.{_≡_}
@@ -22,6 +22,7 @@ use Rattle.keys.specs.Keys.{code, inSize, keyIn}
 use Rattle.contact.specs.declared.Contact.{Contact}
 use Rattle.contact.specs.declared.Sight.{Sight}
 use Rattle.contact.specs.Contact.{stepped, sightOf}
+use Rattle.pins.specs.declared.Pins.{Pins}
 use Rattle.state.specs.declared.Module.{Module}
 use Rattle.state.specs.Module.{Queue, keys, settings, flags, made}
 use Rattle.state.specs.Queue.{put}
@@ -73,11 +74,11 @@ pub record Altered : Type 0 where
 abbrev pub altered : List Bool → List ℕ → Queue → Bool → Bool → List Bool → Altered
 altered held run queue rsint rklint seen = record { held = held; run = run; queue = queue; rsint = rsint; rklint = rklint; seen = seen }
 
-abbrev pub whole : ℕ → ℕ → Altered → ℕ → Bool → Module
-whole d size a mask porirq = made (keys (a .held) (a .run)) (a .queue) (settings d size mask) (flags (a .rsint) (a .rklint) porirq (a .seen))
+abbrev pub whole : ℕ → ℕ → Altered → ℕ → Bool → Pins → Module
+whole d size a mask porirq pins = made (keys (a .held) (a .run)) (a .queue) (settings d size mask) (flags (a .rsint) (a .rklint) porirq (a .seen)) pins
 
 unfoldable pub LookedOn : ℕ → ℕ → List ℕ → Altered → Altered → Type 0
-LookedOn d size s a b = (mask : ℕ) (porirq : Bool) → whole d size b mask porirq ≡ looked (whole d size a mask porirq) s
+LookedOn d size s a b = (mask : ℕ) (porirq : Bool) (pins : Pins) → whole d size b mask porirq pins ≡ looked (whole d size a mask porirq pins) s
 
 -- what soundness says of the keys that a look need not walk
 pub record Still (size : ℕ) (held : List Bool) (run : List ℕ) : Type 0 where

@@ -5,6 +5,7 @@
 --    Losses                  which changes are lost
 --    Changes, Clearing       what a look with a change does to the flags; what clears them
 --    Restarts                what a restart clears and what stays
+--    FootSwitch, Lamp        a spare pin that is watched, and one that is driven
 --    examples-right          all of it is so
 -- Assumes nothing.
 use Prim.Native.Nat.{ℕ}
@@ -13,8 +14,8 @@ use mathlib.Core.Bool.{true, false}
 use mathlib.Core.List.{List, [], _∷_, _++_}
 use lib.ListN.{replicate, drop}
 use Rattle.registers.specs.declared.Register.{Register}
-use Rattle.registers.specs.declared.Register.the-variants.{KBDBOUNCE, KBDSIZE, KBDRIS, KBDMIS, KBDIC, KBDMSK, KBDCODE, EVTCODE, RSTINTCLR}
-use Rattle.sheet.specs.Sheet.{Happening, Past, looked, wrote, got, held, waiting, line, byteOf}
+use Rattle.registers.specs.declared.Register.the-variants.{KBDBOUNCE, KBDSIZE, KBDRIS, KBDMIS, KBDIC, KBDMSK, KBDCODE, EVTCODE, RSTINTCLR, PIN}
+use Rattle.sheet.specs.Sheet.{Happening, Past, looked, wrote, got, beside, sampled, held, waiting, driven, levels, line, byteOf}
 use Rattle.sheet.proofs.Opened.{opened}
 use Rattle.sheet.specs.Ledger.{taken, lost, arrivals}
 
@@ -112,7 +113,54 @@ Restarts =
     × (line (wrote KBDSIZE 0x22 ∷ []) ≡ true)
     × (line (wrote KBDSIZE 0x22 ∷ wrote RSTINTCLR 0x01 ∷ sixteen) ≡ false)
 
-examples-right : P6 × P7 × P8 × P10 × Losses × P12 × Changes × Clearing × Restarts
+-- pin 4 is free and low, then high; PORIRQ is cleared
+abbrev foot : Past
+foot = beside (sampled 0x10) ∷ beside (sampled 0) ∷ wrote RSTINTCLR 1 ∷ wrote KBDSIZE 0x44 ∷ []
+
+-- IRQST, GPIORIS0, GPIOMIS0 and GPIODATA0
+abbrev shown : List Register
+shown = PIN 0x91 ∷ PIN 0xD6 ∷ PIN 0xD9 ∷ PIN 0xC0 ∷ []
+
+-- A foot switch: document 02, E6: "The interrupt line now also follows enabled pin edges"; "the first after reset makes no edge"
+abbrev FootSwitch : Type 0
+FootSwitch =
+    let enabled = wrote (PIN 0xD2) 0x10 ∷ foot in
+    (line foot ≡ false)
+    × (line enabled ≡ true)
+    × (reads shown (wrote (PIN 0xC1) 0x10 ∷ enabled) ≡ 0x01 ∷ 0x10 ∷ 0x10 ∷ 0x10 ∷ [])
+    × (reads shown foot ≡ 0 ∷ 0x10 ∷ 0 ∷ 0 ∷ [])
+    × (line (wrote (PIN 0xDC) 0xEF ∷ enabled) ≡ true)
+    × (line (wrote (PIN 0xDD) 0x10 ∷ enabled) ≡ true)
+    × (line (wrote (PIN 0xDC) 0x10 ∷ enabled) ≡ false)
+    × (line (wrote (PIN 0xDC) 0x10 ∷ wrote (PIN 0xD2) 0x10 ∷ beside (sampled 0x10) ∷ beside (sampled 0) ∷ wrote KBDSIZE 0x44 ∷ []) ≡ true)
+    × (line (wrote KBDSIZE 0x88 ∷ enabled) ≡ true)
+    × (line (wrote (PIN 0xD2) 0x10 ∷ beside (sampled 0x10) ∷ wrote RSTINTCLR 1 ∷ []) ≡ false)
+    × (line (beside (sampled 0x10) ∷ beside (sampled 0) ∷ wrote (PIN 0xD2) 0x10 ∷ wrote RSTINTCLR 1 ∷ wrote KBDSIZE 0x52 ∷ []) ≡ false)
+
+-- A lamp at pin 18, KPY10: "a write to its bits is kept but drives nothing until the pin is free"
+abbrev Lamp : Type 0
+Lamp =
+    let lit = wrote (PIN 0xC4) 0x04 ∷ wrote (PIN 0xC5) 0x04 ∷ wrote (PIN 0xC8) 0x04 ∷ wrote KBDSIZE 0x8B ∷ [] in
+    (driven lit ≡ 0)
+    × (levels lit ≡ 0)
+    × (driven (wrote KBDSIZE 0x8A ∷ lit) ≡ 0x40000)
+    × (levels (wrote KBDSIZE 0x8A ∷ lit) ≡ 0x40000)
+    × (levels (wrote (PIN 0xC4) 0 ∷ wrote KBDSIZE 0x8A ∷ lit) ≡ 0)
+    × (driven (wrote (PIN 0xE4) 0x04 ∷ wrote KBDSIZE 0x8A ∷ lit) ≡ 0)
+    × (driven (wrote (PIN 0xE5) 0x04 ∷ wrote (PIN 0xE4) 0x04 ∷ wrote KBDSIZE 0x8A ∷ lit) ≡ 0x40000)
+
+examples-right : P6 × P7 × P8 × P10 × Losses × P12 × Changes × Clearing × Restarts × FootSwitch × Lamp
 unfolding opened
-examples-right =
-    ((refl, refl), refl, (refl, refl), (refl, refl, refl), (refl, refl, refl, refl), (refl, refl, refl), (refl, refl, refl, refl), (refl, refl, refl, refl, refl, refl, refl, refl), (refl, refl, refl, refl))
+examples-right = (
+  (refl, refl),
+  refl,
+  (refl, refl),
+  (refl, refl, refl),
+  (refl, refl, refl, refl),
+  (refl, refl, refl),
+  (refl, refl, refl, refl),
+  (refl, refl, refl, refl, refl, refl, refl, refl),
+  (refl, refl, refl, refl),
+  (refl, refl, refl, refl, refl, refl, refl, refl, refl, refl, refl),
+  (refl, refl, refl, refl, refl, refl, refl),
+)

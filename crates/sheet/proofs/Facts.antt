@@ -14,22 +14,25 @@
 use Prim.Native.Nat.{ℕ, zero, suc, _+_, _%_, _≤_, _<_}
 use native.Mathlib.Numerals.{add-one}
 use native.Mathlib.Nat.{le-refl}
+use native.Mathlib.Decide.{decLt}
 use native.Mathlib.Omega.{arith}
 use mathlib.Core.Path.{_≡_, refl, sym}
 use mathlib.Core.Bool.{Bool, true, false, cond}
 use mathlib.Core.List.{List, [], _∷_, _++_}
-use borrow.Author.Tests.{lt-leb, lt-ltb}
-use lib.Dec.{ltb, leb·zero, leb·suc-suc}
+use borrow.Author.Tests.{lt-leb, le-leb, lt-ltb, ne-eqb, eqb-true}
+use lib.Dec.{ltb, eqb, leb·zero, leb·suc-suc}
 use lib.ListN.{length, drop, length-drop}
 use Rattle.words.specs.Words.{all, among, some, bit, without}
-use Rattle.words.proofs.Laws.{true-false, all-first}
+use Rattle.words.proofs.Laws.{true-false, all-first, all-below}
 use Rattle.keys.specs.Keys.{isKey, keyAt, code, isCode, keyOf, sample}
 use Rattle.keys.proofs.Laws.{code-key, code-byte}
 use Rattle.contact.specs.Contact.{heldAfter}
+use Rattle.pins.specs.Rules as pins
 use Rattle.registers.specs.declared.Register.{Register}
-use Rattle.registers.specs.declared.Register.the-variants.{KBDBOUNCE, KBDSIZE, KBDRIS, KBDMIS, KBDIC, KBDMSK, KBDCODE, EVTCODE, RSTINTCLR, Unknown}
+use Rattle.registers.specs.declared.Register.the-variants.{KBDBOUNCE, KBDSIZE, KBDRIS, KBDMIS, KBDIC, KBDMSK, KBDCODE, EVTCODE, RSTINTCLR, PIN, Unknown}
 use Rattle.registers.specs.Registers.{_is_, pictured, afterReset}
-use Rattle.sheet.specs.Sheet.{Past, looked, wrote, got, bounce, size, mask, changed, change, changesBelow, changes, waiting, oldest, relint, allRead, marks, rsint, rklint, flags, revtint, ris, mis, history, held, heldBelow, nth, picture, byteOf}
+use Rattle.sheet.specs.Sheet.{Past, looked, wrote, got, beside, bounce, size, mask, changed, change, changesBelow, changes, waiting, oldest, relint, allRead, marks, rsint, rklint, flags, revtint, ris, mis, history, held, heldBelow, nth, picture, keptAt, byteOf}
+use Rattle.sheet.proofs.Opened.{opened}
 use Rattle.words.proofs.Lists.{by-test, all-none, all-one, all-append, all-take, all-drop, take-most}
 
 pub code-is : (k : ℕ) (closed : Bool) → k < 104 → isCode (code k closed) ≡ true
@@ -64,6 +67,7 @@ waiting-most (wrote r b ∷ past) = by-test (λ t. length (cond t [] (waiting pa
 waiting-most (got r ∷ past) =
     let most = waiting-most past in
     by-test (λ t. length (cond t (drop 1 (waiting past)) (waiting past)) ≤ 15) (r is EVTCODE) (λ e. rw (length-drop 1 (waiting past)) (omega arith)) (λ e. most)
+waiting-most (beside e ∷ past) = waiting-most past
 
 module _ (f : ℕ → Bool) (h : (k : ℕ) (closed : Bool) → k < 104 → f (code k closed) ≡ true) where
   pub waiting-all : (past : Past) → all f (waiting past) ≡ true
@@ -76,6 +80,7 @@ module _ (f : ℕ → Bool) (h : (k : ℕ) (closed : Bool) → k < 104 → f (co
   waiting-all (got r ∷ past) =
       let old = waiting-all past in
       by-test (λ t. all f (cond t (drop 1 (waiting past)) (waiting past)) ≡ true) (r is EVTCODE) (λ e. all-drop f (waiting past) old) (λ e. old)
+  waiting-all (beside e ∷ past) = waiting-all past
 
 -- "each a press or release code"
 pub waiting-codes : (past : Past) → all isCode (waiting past) ≡ true
@@ -108,6 +113,7 @@ never-all (wrote r b ∷ past) = by-test (λ t. allRead (cond t [] (marks past))
 never-all (got r ∷ past) =
     let read = pictured r ++ marks past in
     by-test (λ t. allRead (cond t [] read) ≡ false) (allRead read) (λ e. refl) (λ e. e)
+never-all (beside e ∷ past) = never-all past
 
 pub nth-none : (n : ℕ) → nth n [] ≡ 0x7F
 unfolding nth
@@ -132,6 +138,33 @@ mask-low [] = omega arith
 mask-low (looked s ∷ past) = mask-low past
 mask-low (wrote r b ∷ past) = by-test (λ t. cond t (b % 16) (mask past) ≤ 15) (r is KBDMSK) (λ e. omega arith) (λ e. mask-low past)
 mask-low (got r ∷ past) = mask-low past
+mask-low (beside e ∷ past) = mask-low past
+
+-- a register of the pins: below 0xDC by computing, from there on each reads as it is kept
+pin-low : (a : ℕ) → a < 0xDC → byteOf (PIN a) [] ≡ afterReset (PIN a)
+unfolding opened
+pin-low a h = eqb-true (byteOf (PIN a) []) (afterReset (PIN a)) (all-below (λ n. eqb (byteOf (PIN n) []) (afterReset (PIN n))) 0xDC refl a h)
+
+pin-high : (a : ℕ) → 0xDC ≤ a → byteOf (PIN a) [] ≡ afterReset (PIN a)
+unfolding byteOf afterReset keptAt pins.reads pins.isData
+pin-high a h =
+    rw (
+      ne-eqb a 0x91 (λ e. omega arith),
+      ne-eqb a 0xC0 (λ e. omega arith),
+      ne-eqb a 0xC2 (λ e. omega arith),
+      ne-eqb a 0xC4 (λ e. omega arith),
+      le-leb 0xD6 a (omega arith),
+      lt-leb a 0xD8 (omega arith),
+      le-leb 0xD9 a (omega arith),
+      lt-leb a 0xDB (omega arith),
+    )
+
+pin-reset : (a : ℕ) → byteOf (PIN a) [] ≡ afterReset (PIN a)
+pin-reset a = go (decLt a 0xDC)
+  where
+    go : Dec (a < 0xDC) → byteOf (PIN a) [] ≡ afterReset (PIN a)
+    go (yes h) = pin-low a h
+    go (no h) = pin-high a (omega (arith, h))
 
 -- the column "After reset"
 pub after-reset : (r : Register) → byteOf r [] ≡ afterReset r
@@ -145,4 +178,5 @@ after-reset KBDMSK = refl
 after-reset (KBDCODE n) = nth-none n
 after-reset EVTCODE = refl
 after-reset RSTINTCLR = refl
+after-reset (PIN a) = pin-reset a
 after-reset Unknown = refl

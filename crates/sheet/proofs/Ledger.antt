@@ -17,7 +17,7 @@ use Rattle.words.proofs.Laws.{all-first}
 use Rattle.keys.specs.Keys.{isCode}
 use Rattle.registers.specs.declared.Register.the-variants.{KBDSIZE, EVTCODE}
 use Rattle.registers.specs.Registers.{_is_}
-use Rattle.sheet.specs.Sheet.{Past, looked, wrote, got, changes, waiting, oldest, byteOf}
+use Rattle.sheet.specs.Sheet.{Past, looked, wrote, got, beside, changes, waiting, oldest, byteOf}
 use Rattle.sheet.specs.Ledger.{codeGot, taken, Arrival, arriving, codes, kept, lost, coming, arrivals, demanded}
 use Rattle.words.proofs.Lists.{by-test, take-room}
 use Rattle.sheet.proofs.Facts.{waiting-most, waiting-codes, code-real}
@@ -50,6 +50,7 @@ ledger (got r ∷ past) =
     let w = waiting past in
     by-test (λ t. cond t (t₀ ++ codeGot (oldest w)) t₀ ++ cond t (drop 1 w) w ≡ kept (arrivals past)) (r is EVTCODE)
     (λ e. ledger-read t₀ w (waiting-codes past) ∙ ledger past) (λ e. ledger past)
+ledger (beside e ∷ past) = ledger past
 
 -- "each once and in order"
 pub all-demanded : (past : Past) → codes (arrivals past) ≡ demanded past
@@ -60,6 +61,7 @@ all-demanded (looked s ∷ past) =
     ∙ rw (all-demanded past, codes-arriving (length (kept (arrivals past)) - length (taken past)) (changes s past))
 all-demanded (wrote r b ∷ past) = by-test (λ t. codes (cond t [] (arrivals past)) ≡ cond t [] (demanded past)) (r is KBDSIZE) (λ e. refl) (λ e. all-demanded past)
 all-demanded (got r ∷ past) = all-demanded past
+all-demanded (beside e ∷ past) = all-demanded past
 
 -- "If none arrived so": then the two lists are the same
 pub none-lost : (past : Past) → lost (arrivals past) ≡ [] → taken past ++ waiting past ≡ demanded past

@@ -6,5 +6,6 @@ pub mod Hidden
 pub mod Replay
 pub mod Loss
 pub mod Sizes
+pub mod Pins
 pub mod Examples
 pub mod Opened

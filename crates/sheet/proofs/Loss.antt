@@ -13,7 +13,7 @@ use lib.ListN.{length, length-append}
 use Rattle.words.specs.Words.{some, bit, without}
 use Rattle.registers.specs.declared.Register.the-variants.{KBDSIZE, KBDIC}
 use Rattle.registers.specs.Registers.{_is_}
-use Rattle.sheet.specs.Sheet.{Past, looked, wrote, got, cleared, changes, waiting, relint}
+use Rattle.sheet.specs.Sheet.{Past, looked, wrote, got, beside, cleared, changes, waiting, relint}
 use Rattle.sheet.specs.Ledger.{taken, Arrival, kept, lost, coming, arrivals, unreported, acknowledged}
 use Rattle.words.proofs.Lists.{some-append}
 use Rattle.sheet.proofs.Facts.{waiting-most}
@@ -43,6 +43,7 @@ relint-exact (looked s ∷ past) =
     (λ i. relint-exact past i || loss-look s past i) ∙ sym (some-append (unreported past) (lost (coming (arrivals past) s past)))
 relint-exact (wrote r b ∷ past) = loss-write (r is KBDSIZE) (r is KBDIC) (bit 1 b) (relint past) (unreported past) (relint-exact past)
 relint-exact (got r ∷ past) = relint-exact past
+relint-exact (beside e ∷ past) = relint-exact past
 
 all-write : (size ack : Bool) (u : List ℕ) (a : List Arrival) (before : Bool) → (before ≡ false → u ≡ lost a) → cond size false (before || ack) ≡ false
     → cond (size || ack) [] u ≡ lost (cond size [] a)
@@ -59,6 +60,7 @@ all-unreported [] e = refl
 all-unreported (looked s ∷ past) e = rw (all-unreported past e) (sym (lost-append (arrivals past) (coming (arrivals past) s past)))
 all-unreported (wrote r b ∷ past) e = all-write (r is KBDSIZE) (r is KBDIC && bit 1 b) (unreported past) (arrivals past) (acknowledged past) (all-unreported past) e
 all-unreported (got r ∷ past) e = all-unreported past e
+all-unreported (beside x ∷ past) e = all-unreported past e
 
 -- no acknowledging write since the restart: RELINT is set exactly when a change was lost since the restart
 pub no-silent-loss : (past : Past) → acknowledged past ≡ false → relint past ≡ some (lost (arrivals past))

@@ -22,7 +22,7 @@ use Rattle.contact.specs.Contact.{Seen, heldAfter}
 use Rattle.contact.proofs.Laws.{sight-opposite, sight-turned, sight-kept}
 use Rattle.registers.specs.declared.Register.the-variants.{KBDSIZE}
 use Rattle.registers.specs.Registers.{_is_}
-use Rattle.sheet.specs.Sheet.{Past, looked, wrote, got, bounce, size, history, held, changed, change, changesBelow, changes, waiting}
+use Rattle.sheet.specs.Sheet.{Past, looked, wrote, got, beside, bounce, size, history, held, changed, change, changesBelow, changes, waiting}
 use Rattle.sheet.specs.Ledger.{taken, lost, arrivals, demanded}
 use Rattle.words.proofs.Lists.{by-test}
 use Rattle.sheet.proofs.Ledger.{none-lost}
@@ -88,6 +88,7 @@ replay-demanded (looked s ∷ past) k h =
 replay-demanded (wrote r b ∷ past) k h =
     by-test (λ t. replayed k false (cond t [] (demanded past)) ≡ heldAfter (cond t [] (history k past))) (r is KBDSIZE) (λ e. refl) (λ e. replay-demanded past k h)
 replay-demanded (got r ∷ past) k h = replay-demanded past k h
+replay-demanded (beside e ∷ past) k h = replay-demanded past k h
 
 -- "If none arrived so, replaying the codes from no key held gives the keys held now."
 pub replay : (past : Past) → lost (arrivals past) ≡ [] → (k : ℕ) → k < 104 → replayed k false (taken past ++ waiting past) ≡ held k past
@@ -119,6 +120,7 @@ legal-demanded (looked s ∷ past) =
     (legal-below s past (λ k. replayed k false (demanded past)) (replay-demanded past) 104 (le-refl 104))
 legal-demanded (wrote r b ∷ past) = by-test (λ t. legal (cond t [] (demanded past)) ≡ true) (r is KBDSIZE) (λ e. refl) (λ e. legal-demanded past)
 legal-demanded (got r ∷ past) = legal-demanded past
+legal-demanded (beside e ∷ past) = legal-demanded past
 
 -- if none was lost, each press is of a key that is up, each release of one that is down
 pub legal-codes : (past : Past) → lost (arrivals past) ≡ [] → legal (taken past ++ waiting past) ≡ true

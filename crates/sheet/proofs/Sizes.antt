@@ -26,7 +26,7 @@ use Rattle.contact.proofs.Laws as contact
 use Rattle.registers.specs.declared.Register.{Register}
 use Rattle.registers.specs.declared.Register.the-variants.{KBDBOUNCE, KBDSIZE, EVTCODE}
 use Rattle.registers.specs.Registers.{_is_}
-use Rattle.sheet.specs.Sheet.{Past, looked, wrote, got, bounce, size, history, held, changed, changes, waiting}
+use Rattle.sheet.specs.Sheet.{Past, looked, wrote, got, beside, bounce, size, history, held, changed, changes, waiting}
 use Rattle.words.proofs.Lists.{by-test, all-none, all-append, all-take, all-drop}
 use Rattle.sheet.proofs.Contacts.{contactOf, contact-right}
 use Rattle.sheet.proofs.Facts.{changes-all}
@@ -37,6 +37,7 @@ writes f [] = true
 writes f (looked s ∷ past) = writes f past
 writes f (wrote r b ∷ past) = f r b && writes f past
 writes f (got r ∷ past) = writes f past
+writes f (beside e ∷ past) = writes f past
 
 unfoldable pub byteLow : Register → ℕ → Bool
 byteLow r b = leb b 255
@@ -52,6 +53,7 @@ bounce-low (wrote r b ∷ past) h =
     by-test (λ t. cond t b (bounce past) ≤ 255) (r is KBDBOUNCE)
     (λ e. leb-true b 255 (and-left (leb b 255) (writes byteLow past) h)) (λ e. bounce-low past (and-right (leb b 255) (writes byteLow past) h))
 bounce-low (got r ∷ past) h = bounce-low past h
+bounce-low (beside e ∷ past) h = bounce-low past h
 
 -- "KBDSIZE is acceptable"
 pub size-ok : (past : Past) → writes sizeFits past ≡ true → acceptable (size past) ≡ true
@@ -62,6 +64,7 @@ size-ok (wrote r b ∷ past) h =
     by-test (λ t. cond t (acceptable b) true ≡ true → acceptable (cond t b (size past)) ≡ true) (r is KBDSIZE)
     (λ e f. f) (λ e f. size-ok past (and-right (sizeFits r b) (writes sizeFits past) h)) (and-left (sizeFits r b) (writes sizeFits past) h)
 size-ok (got r ∷ past) h = size-ok past h
+size-ok (beside e ∷ past) h = size-ok past h
 
 -- ---- a key out of the size
 abbrev rest : Contact
@@ -84,6 +87,7 @@ out-open (wrote r b ∷ past) k e =
     by-test (λ t. keyIn (cond t b (size past)) k ≡ false → (heldAfter (cond t [] h) ≡ false) × (runOf (heldAfter (cond t [] h)) (samples (cond t [] h)) ≡ 0)) (r is KBDSIZE)
     (λ w f. (refl, refl)) (λ w. out-open past k) e
 out-open (got r ∷ past) k e = out-open past k e
+out-open (beside x ∷ past) k e = out-open past k e
 
 pub out-still : (s : List ℕ) (past : Past) (k : ℕ) → keyIn (size past) k ≡ false → changed k s past ≡ false
 unfolding contactOf
@@ -106,6 +110,7 @@ history-low (looked s ∷ past) k h =
 history-low (wrote r b ∷ past) k h =
     by-test (λ t. all seenFits (cond t [] (history k past)) ≡ true) (r is KBDSIZE) (λ e. all-none seenFits) (λ e. history-low past k (and-right (leb b 255) (writes byteLow past) h))
 history-low (got r ∷ past) k h = history-low past k h
+history-low (beside e ∷ past) k h = history-low past k h
 
 -- "no run is above 254"
 pub run-low : (past : Past) (k : ℕ) → writes byteLow past ≡ true → runOf (held k past) (samples (history k past)) ≤ 254
@@ -129,3 +134,4 @@ waiting-in (wrote r b ∷ past) =
 waiting-in (got r ∷ past) =
     let old = waiting-in past in
     by-test (λ t. all (codeIn (size past)) (cond t (drop 1 (waiting past)) (waiting past)) ≡ true) (r is EVTCODE) (λ e. all-drop (codeIn (size past)) (waiting past) old) (λ e. old)
+waiting-in (beside e ∷ past) = waiting-in past

@@ -12,7 +12,7 @@
 --    unreported past       the changes lost since the restart or the last such write
 --    acknowledged past     there was such a write since the restart
 --
--- What is quoted is the customer's demand 3, unless it says otherwise. A past has its newest happening first, and every table the sheet's four lines.
+-- What is quoted is the customer's demand 3, unless it says otherwise. A past has its newest happening first, and every table the sheet's five lines.
 use Prim.Native.Nat.{ℕ, _+_, _-_}
 use mathlib.Core.Bool.{Bool, false, _&&_, _||_}
 use mathlib.Core.List.{List, [], _∷_, _++_}
@@ -22,7 +22,7 @@ use Rattle.words.specs.Words.{_if_, _else_, bit}
 use Rattle.registers.specs.declared.Register.{Register}
 use Rattle.registers.specs.declared.Register.the-variants.{KBDIC, EVTCODE}
 use Rattle.registers.specs.Registers.{_is_}
-use Rattle.sheet.specs.Sheet.{Past, looked, wrote, got, restarts, changes, byteOf}
+use Rattle.sheet.specs.Sheet.{Past, looked, wrote, got, beside, restarts, changes, byteOf}
 
 -- "its empty mark is no code"
 unfoldable pub codeGot : ℕ → List ℕ
@@ -34,6 +34,7 @@ taken [] = []
 taken (looked s ∷ past) = taken past
 taken (wrote r b ∷ past) = [] if restarts r else taken past
 taken (got r ∷ past) = taken past ++ codeGot (byteOf EVTCODE past) if r is EVTCODE else taken past
+taken (beside e ∷ past) = taken past
 
 -- a change, and how many codes waited when it came
 pub record Arrival : Type 0 where
@@ -72,6 +73,7 @@ arrivals [] = []
 arrivals (looked s ∷ past) = arrivals past ++ coming (arrivals past) s past
 arrivals (wrote r b ∷ past) = [] if restarts r else arrivals past
 arrivals (got r ∷ past) = arrivals past
+arrivals (beside e ∷ past) = arrivals past
 
 -- "exactly the changes that the contacts' own history demands under the bounce settings in force, each once and in order"
 unfoldable pub demanded : Past → List ℕ
@@ -79,6 +81,7 @@ demanded [] = []
 demanded (looked s ∷ past) = demanded past ++ changes s past
 demanded (wrote r b ∷ past) = [] if restarts r else demanded past
 demanded (got r ∷ past) = demanded past
+demanded (beside e ∷ past) = demanded past
 
 -- the host clears RELINT
 abbrev pub acknowledges : Register → ℕ → Bool
@@ -89,9 +92,11 @@ unreported [] = []
 unreported (looked s ∷ past) = unreported past ++ lost (coming (arrivals past) s past)
 unreported (wrote r b ∷ past) = [] if restarts r || acknowledges r b else unreported past
 unreported (got r ∷ past) = unreported past
+unreported (beside e ∷ past) = unreported past
 
 unfoldable pub acknowledged : Past → Bool
 acknowledged [] = false
 acknowledged (looked s ∷ past) = acknowledged past
 acknowledged (wrote r b ∷ past) = false if restarts r else acknowledged past || acknowledges r b
 acknowledged (got r ∷ past) = acknowledged past
+acknowledged (beside e ∷ past) = acknowledged past

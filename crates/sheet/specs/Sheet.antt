@@ -1,34 +1,41 @@
 -- THE SHEET: what the panel shows, told from what has happened to it since reset.
 --
---    1  what can happen           Happening, Past, restarts, cleared
+--    1  what can happen           Beside, Happening, Past, restarts, cleared
 --    2  the settings              bounce, size, mask
 --    3  a key                     history, held
 --    4  the changes of a look     changed, change, changesBelow, changes
 --    5  the queue                 waiting, relint
 --    6  a look with a change      allRead, marks, rsint, rklint
---    7  the flags and the line    flags, revtint, ris, mis, porirq, line
---    8  the picture               heldBelow, nth, picture
---    9  the byte of a register    oldest, byteOf
+--    7  the spare pins            keptAt, pinSamples, newest, pending, driven, levels
+--    8  the flags and the line    flags, revtint, ris, mis, porirq, raised, line, irqst
+--    9  the picture               heldBelow, nth, picture
+--    10 the byte of a register    oldest, byteOf
 --
 -- What is quoted is document 01, in its order but for the settings, which come first; and document 02, where it is named.
--- A past has its newest happening first. Every table has the same four lines:
--- after reset; after a look; after a byte was written; after a byte was read.
+-- A past has its newest happening first. Every table has the same five lines:
+-- after reset; after a look; after a byte was written; after a byte was read; after something that the keypad doesn't see.
 -- `A if T else B` is A when T is true, else B. `l ++ m` is l, then m; `c ∷ l` is c, then l. `&&` is and, `||` is or.
-use Prim.Native.Nat.{ℕ, zero, suc, _+_, _%_}
+use Prim.Native.Nat.{ℕ, zero, suc, _+_, _/_, _%_}
 use mathlib.Core.Bool.{Bool, true, false, not, _&&_, _||_}
 use mathlib.Core.List.{List, [], _∷_, _++_}
 use lib.ListN.{length, getD, take, drop}
 use lib.Dec.{leb, ltb, eqb}
-use Rattle.words.specs.Words.{_if_, _else_, among, some, without}
+use Rattle.words.specs.Words.{_if_, _else_, among, some, bit, without}
 use Rattle.keys.specs.Keys.{code, sample, hidden}
 use Rattle.contact.specs.Contact as contact
 use Rattle.contact.specs.Contact.{Seen, samples, heldAfter}
+use Rattle.pins.specs.Rules as pins
 use Rattle.registers.specs.declared.Register.{Register}
-use Rattle.registers.specs.declared.Register.the-variants.{KBDBOUNCE, KBDSIZE, KBDRIS, KBDMIS, KBDIC, KBDMSK, KBDCODE, EVTCODE, RSTINTCLR, Unknown}
-use Rattle.registers.specs.Registers.{_is_, pictured}
+use Rattle.registers.specs.declared.Register.the-variants.{KBDBOUNCE, KBDSIZE, KBDRIS, KBDMIS, KBDIC, KBDMSK, KBDCODE, EVTCODE, RSTINTCLR, PIN, Unknown}
+use Rattle.registers.specs.Registers.{_is_, pictured, _isPin_}
 
 -- ---- 1  WHAT CAN HAPPEN
 -- A reset begins a new past. Declined calls and questions are no happenings. "Bytes take effect one at a time, in order."
+
+-- what the keypad doesn't see
+pub data Beside : Type 0 where
+  -- the pins were sampled, bit i for pin i
+  sampled : ℕ → Beside
 
 pub data Happening : Type 0 where
   -- a look with these samples was done
@@ -37,6 +44,7 @@ pub data Happening : Type 0 where
   wrote : Register → ℕ → Happening
   -- a byte of this register was read
   got : Register → Happening
+  beside : Beside → Happening
 
 abbrev pub Past : Type 0
 Past = List Happening
@@ -59,6 +67,7 @@ bounce [] = 0x03
 bounce (looked s ∷ past) = bounce past
 bounce (wrote r b ∷ past) = b if r is KBDBOUNCE else bounce past
 bounce (got r ∷ past) = bounce past
+bounce (beside e ∷ past) = bounce past
 
 -- "KBDSIZE | R/W | 0x22 | size; a write restarts"
 unfoldable pub size : Past → ℕ
@@ -66,6 +75,7 @@ size [] = 0x22
 size (looked s ∷ past) = size past
 size (wrote r b ∷ past) = b if r is KBDSIZE else size past
 size (got r ∷ past) = size past
+size (beside e ∷ past) = size past
 
 -- "KBDMSK | R/W | 0x03 | low four bits kept, high four read 0"
 unfoldable pub mask : Past → ℕ
@@ -73,6 +83,7 @@ mask [] = 0x03
 mask (looked s ∷ past) = mask past
 mask (wrote r b ∷ past) = b % 16 if r is KBDMSK else mask past
 mask (got r ∷ past) = mask past
+mask (beside e ∷ past) = mask past
 
 -- ---- 3  A KEY
 
@@ -83,6 +94,7 @@ history k [] = []
 history k (looked s ∷ past) = history k past if hidden s (size past) k else record { bounce = bounce past; closed = sample s (size past) k } ∷ history k past
 history k (wrote r b ∷ past) = [] if restarts r else history k past
 history k (got r ∷ past) = history k past
+history k (beside e ∷ past) = history k past
 
 -- "After a restart every key is open." From then on the contact's rule decides, look by look
 unfoldable pub held : ℕ → Past → Bool
@@ -118,6 +130,7 @@ waiting [] = []
 waiting (looked s ∷ past) = take 15 (waiting past ++ changes s past)
 waiting (wrote r b ∷ past) = [] if restarts r else waiting past
 waiting (got r ∷ past) = drop 1 (waiting past) if r is EVTCODE else waiting past
+waiting (beside e ∷ past) = waiting past
 
 -- "dropped and RELINT is set"; KBDIC: "bit 1 clears RELINT"
 unfoldable pub relint : Past → Bool
@@ -125,6 +138,7 @@ relint [] = false
 relint (looked s ∷ past) = relint past || ltb 15 (length (waiting past ++ changes s past))
 relint (wrote r b ∷ past) = cleared 1 r b (relint past)
 relint (got r ∷ past) = relint past
+relint (beside e ∷ past) = relint past
 
 -- ---- 6  A LOOK WITH A CHANGE
 -- "A look with at least one change does this, in order: if RSINT is already set, set RKLINT; set RSINT;
@@ -141,6 +155,7 @@ marks [] = []
 marks (looked s ∷ past) = [] if some (changes s past) else marks past
 marks (wrote r b ∷ past) = [] if restarts r else marks past
 marks (got r ∷ past) = [] if allRead (pictured r ++ marks past) else pictured r ++ marks past
+marks (beside e ∷ past) = marks past
 
 -- "set RSINT"; KBDIC: "bit 0 clears RSINT and RKLINT"; all four read: "RSINT is cleared"
 unfoldable pub rsint : Past → Bool
@@ -148,6 +163,7 @@ rsint [] = false
 rsint (looked s ∷ past) = rsint past || some (changes s past)
 rsint (wrote r b ∷ past) = cleared 0 r b (rsint past)
 rsint (got r ∷ past) = false if allRead (pictured r ++ marks past) else rsint past
+rsint (beside e ∷ past) = rsint past
 
 -- "if RSINT is already set, set RKLINT"; "(RKLINT stays)"
 unfoldable pub rklint : Past → Bool
@@ -155,8 +171,47 @@ rklint [] = false
 rklint (looked s ∷ past) = rklint past || (rsint past && some (changes s past))
 rklint (wrote r b ∷ past) = cleared 0 r b (rklint past)
 rklint (got r ∷ past) = rklint past
+rklint (beside e ∷ past) = rklint past
 
--- ---- 7  THE FLAGS AND THE LINE
+-- ---- 7  THE SPARE PINS: what is quoted here is document 02, E6. What a pin is and does: crates/pins/specs/Rules.antt
+
+-- the byte kept at an address: "a write to its bits is kept", "a size write keeps the pin registers"
+unfoldable pub keptAt : Past → ℕ → ℕ
+keptAt [] a = pins.afterReset a
+keptAt (looked s ∷ past) a = keptAt past a
+keptAt (wrote r b ∷ past) a = b if r isPin a else keptAt past a
+keptAt (got r ∷ past) a = keptAt past a
+keptAt (beside e ∷ past) a = keptAt past a
+
+-- "A new call takes pin samples": those since reset, newest first
+unfoldable pub pinSamples : Past → List ℕ
+pinSamples [] = []
+pinSamples (looked s ∷ past) = pinSamples past
+pinSamples (wrote r b ∷ past) = pinSamples past
+pinSamples (got r ∷ past) = pinSamples past
+pinSamples (beside (sampled x) ∷ past) = x ∷ pinSamples past
+
+-- pin i's newest sample; 0 if there is none
+unfoldable pub newest : Past → ℕ → Bool
+newest past i = bit i (getD (pinSamples past) 0 0)
+
+-- pin i's edge is pending: one was made since reset, and not cleared since. "the first after reset makes no edge";
+-- "A pin used by the keypad size [..] makes no edge"
+unfoldable pub pending : Past → ℕ → Bool
+pending [] i = false
+pending (looked s ∷ past) i = pending past i
+pending (wrote r b ∷ past) i = without (i % 8) (pending past i) b if r isPin (0xDC + i / 8) else pending past i
+pending (got r ∷ past) i = pending past i
+pending (beside (sampled x) ∷ past) i = pending past i || (some (pinSamples past) && pins.edge (keptAt past) (size past) i (newest past i) (bit i x))
+
+-- the pins that are driven, as bits, and those of them that are driven to 1: "drives nothing until the pin is free"
+unfoldable pub driven : Past → ℕ
+driven past = pins.word (pins.drives (keptAt past) (size past))
+
+unfoldable pub levels : Past → ℕ
+levels past = pins.word (λ i. pins.drives (keptAt past) (size past) i && pins.DATA (keptAt past) i)
+
+-- ---- 8  THE FLAGS AND THE LINE
 
 -- "bit 3 RELINT, 2 REVTINT, 1 RKLINT, 0 RSINT; the rest 0"
 unfoldable pub flags : Bool → Bool → Bool → Bool → ℕ
@@ -184,12 +239,22 @@ porirq [] = true
 porirq (looked s ∷ past) = porirq past
 porirq (wrote r b ∷ past) = without 0 (porirq past) b if r is RSTINTCLR else porirq past
 porirq (got r ∷ past) = porirq past
+porirq (beside e ∷ past) = porirq past
+
+-- some pin has its edge pending and its GPIOIE bit set
+unfoldable pub raised : Past → Bool
+raised past = pins.somePin (λ i. pending past i && pins.IE (keptAt past) i)
 
 -- "The interrupt line is asserted exactly when PORIRQ is set or KBDMIS isn't 0."
+-- E6: "The interrupt line now also follows enabled pin edges"
 unfoldable pub line : Past → Bool
-line past = porirq past || not (eqb (mis past) 0)
+line past = porirq past || (not (eqb (mis past) 0) || raised past)
 
--- ---- 8  THE PICTURE
+-- the IRQ status register: bit 7 PORIRQ, 6 KBDIRQ, 0 GPIOIRQ; the rest 0
+unfoldable pub irqst : Past → ℕ
+irqst past = (128 if porirq past else 0) + (64 if not (eqb (mis past) 0) else 0) + (1 if raised past else 0)
+
+-- ---- 9  THE PICTURE
 
 -- the press codes of the held keys below n, "by row, then column"
 unfoldable pub heldBelow : ℕ → Past → List ℕ
@@ -204,7 +269,7 @@ nth n l = 0x7F if leb (length l) n else getD l n 0 + (128 if ltb (n + 1) (length
 unfoldable pub picture : ℕ → Past → ℕ
 picture n past = nth n (heldBelow 104 past)
 
--- ---- 9  THE BYTE OF A REGISTER
+-- ---- 10  THE BYTE OF A REGISTER
 
 -- "oldest waiting code, which is taken out; 0x7F when none waits"
 unfoldable pub oldest : List ℕ → ℕ
@@ -222,4 +287,5 @@ byteOf KBDMSK past = mask past
 byteOf (KBDCODE n) past = picture n past
 byteOf EVTCODE past = oldest (waiting past)
 byteOf RSTINTCLR past = 0
+byteOf (PIN a) past = irqst past if eqb a 0x91 else pins.reads (keptAt past) (pending past) (newest past) (size past) a
 byteOf Unknown past = 0

@@ -2,17 +2,20 @@
 --
 --    fresh                          the state after reset
 --    forgotten                      no picture register is marked as read
---    Keys, Queue, Settings, Flags   the four parts of the state
+--    Keys, Queue, Settings, Flags   the four parts of the keypad's state
 --    keys h r, queue p n r, settings b s m, flags s k p l    a part, of its fields
 --    keysOf m, queueOf m, ..        a part of the state m
---    made k q s f                   the state of these parts
+--    made k q s f p                 the state of these parts, and of the pins' part p
 --    anew f m size                  the state f, but for what a restart keeps of m, and the size
 --    restarted m size               the state after an accepted write of KBDSIZE
 --    withKeys m h r, withQueue m q, ..    the state m, with these for its own
+--    keypad m                       the state m, with the pins as they are after reset: what the keypad has of it
 use Prim.Native.Nat.{ℕ}
 use mathlib.Core.Bool.{Bool, true, false}
 use mathlib.Core.List.{List}
 use lib.ListN.{replicate}
+use Rattle.pins.specs.declared.Pins.{Pins}
+use Rattle.pins.specs.Pins as pins
 use Rattle.state.specs.declared.Module.{Module}
 
 unfoldable pub forgotten : List Bool
@@ -34,6 +37,7 @@ fresh =
       relint = false;
       porirq = true;
       seen = forgotten;
+      pins = pins.fresh;
     }
 
 -- how each key is held, and its run
@@ -84,8 +88,8 @@ settingsOf m = settings (m .bounce) (m .size) (m .mask)
 abbrev pub flagsOf : Module → Flags
 flagsOf m = flags (m .rsint) (m .rklint) (m .porirq) (m .seen)
 
-abbrev pub made : Keys → Queue → Settings → Flags → Module
-made k q s f =
+abbrev pub made : Keys → Queue → Settings → Flags → Pins → Module
+made k q s f p =
     record {
       held = k .held;
       run = k .run;
@@ -99,28 +103,29 @@ made k q s f =
       relint = q .relint;
       porirq = f .porirq;
       seen = f .seen;
+      pins = p;
     }
 
 -- the state f, but for what a restart keeps of m, and the size
 abbrev pub anew : Module → Module → ℕ → Module
-anew f m size = made (keysOf f) (queueOf f) (settings (m .bounce) size (m .mask)) (flags (f .rsint) (f .rklint) (m .porirq) (f .seen))
+anew f m size = made (keysOf f) (queueOf f) (settings (m .bounce) size (m .mask)) (flags (f .rsint) (f .rklint) (m .porirq) (f .seen)) (m .pins)
 
 -- "A restart by KBDSIZE opens all keys, empties their sample history and the queue, clears RSINT, RKLINT and RELINT,
--- and forgets which picture registers were read; KBDBOUNCE, KBDMSK and PORIRQ stay."
+-- and forgets which picture registers were read; KBDBOUNCE, KBDMSK and PORIRQ stay." Document 02, E6: "a size write keeps the pin registers"
 unfoldable pub restarted : Module → ℕ → Module
 restarted m size = anew fresh m size
 
 abbrev pub withKeys : Module → List Bool → List ℕ → Module
-withKeys m held run = made (keys held run) (queueOf m) (settingsOf m) (flagsOf m)
+withKeys m held run = made (keys held run) (queueOf m) (settingsOf m) (flagsOf m) (m .pins)
 
 abbrev pub withQueue : Module → Queue → Module
-withQueue m q = made (keysOf m) q (settingsOf m) (flagsOf m)
+withQueue m q = made (keysOf m) q (settingsOf m) (flagsOf m) (m .pins)
 
 abbrev pub withSettings : Module → Settings → Module
-withSettings m s = made (keysOf m) (queueOf m) s (flagsOf m)
+withSettings m s = made (keysOf m) (queueOf m) s (flagsOf m) (m .pins)
 
 abbrev pub withFlags : Module → Flags → Module
-withFlags m f = made (keysOf m) (queueOf m) (settingsOf m) f
+withFlags m f = made (keysOf m) (queueOf m) (settingsOf m) f (m .pins)
 
 abbrev pub withBounce : Module → ℕ → Module
 withBounce m bounce = withSettings m (settings bounce (m .size) (m .mask))
@@ -142,3 +147,9 @@ withPorirq m porirq = withFlags m (flags (m .rsint) (m .rklint) porirq (m .seen)
 
 abbrev pub withSeen : Module → List Bool → Module
 withSeen m seen = withFlags m (flags (m .rsint) (m .rklint) (m .porirq) seen)
+
+abbrev pub withPins : Module → Pins → Module
+withPins m p = made (keysOf m) (queueOf m) (settingsOf m) (flagsOf m) p
+
+abbrev pub keypad : Module → Module
+keypad m = withPins m pins.fresh

@@ -3,6 +3,7 @@ pub mod queue;
 
 use keys::KEYS;
 use keys::NO_CODE;
+use pins::Pins;
 ghost use mathlib.Core.Path.{_≡_};
 ghost use Rattle.state.specs.Module.{fresh, restarted};
 
@@ -35,12 +36,15 @@ pub struct Module {
     pub porirq: bool,
     // which of the four picture registers were read
     pub seen: [bool; 4],
+    // the spare pins
+    pub pins: Pins,
 }
 
 // The state after reset.
 pub fn fresh() -> Module
     ensures { λ r. ⌜ r ≡ fresh ⌝ }
 {
+    let pins = pins::fresh();
     Module {
         held: [false; KEYS],
         run: [0; KEYS],
@@ -54,6 +58,7 @@ pub fn fresh() -> Module
         relint: false,
         porirq: true,
         seen: [false; 4],
+        pins: pins,
     }
 }
 
@@ -66,5 +71,7 @@ pub fn restarted(m: Module, size: u8) -> Module
     next.size = size;
     next.mask = m.mask;
     next.porirq = m.porirq;
+    let pins = m.pins;
+    next.pins = pins;
     next
 }

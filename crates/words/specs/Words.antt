@@ -6,13 +6,14 @@
 --    allBelow f n     f is true of every number below n
 --    among n l        the number n is in the list l
 --    some l           the list l has an item
+--    within lo hi a   lo ≤ a ≤ hi
 --    bit c b          bit c of the number b is 1
 --    without c f b    the flag f, cleared if bit c of the byte b is 1
 --    table f n        the list f 0, f 1, .. of n items
 use Prim.Native.Nat.{ℕ, zero, suc, _+_, _/_, _%_, _^_}
 use mathlib.Core.Bool.{Bool, true, false, cond, _&&_, _||_}
 use mathlib.Core.List.{List, [], _∷_, _++_}
-use lib.Dec.{eqb}
+use lib.Dec.{leb, eqb}
 
 infixl 6 _if_
 infixl 5 _else_
@@ -41,6 +42,9 @@ among n (x ∷ l) = eqb n x || among n l
 unfoldable pub some : {A : Type 0} → List A → Bool
 some [] = false
 some (x ∷ l) = true
+
+abbrev pub within : ℕ → ℕ → ℕ → Bool
+within lo hi a = leb lo a && leb a hi
 
 unfoldable pub bit : ℕ → ℕ → Bool
 bit c b = eqb (b / 2 ^ c % 2) 1

@@ -70,9 +70,9 @@ impl Maker {
     fn some_count(&mut self) -> usize {
         match self.chance.below(100) {
             0 => self.chance.pick(&[255, 256, 257, 300]),
-            1..=5 => 0,
-            6..=24 => 1,
-            25..=34 => self.chance.between(9, 40),
+            1..=8 => 0,
+            9..=26 => 1,
+            27..=35 => self.chance.between(9, 40),
             _ => self.chance.between(2, 8),
         }
     }
@@ -147,7 +147,7 @@ impl Maker {
             24..=25 => self.drain(),
             26 => self.write_some(0x02, 1),
             27 => self.write_some(0x02, 2),
-            28 if self.chance.one_in(3) => self.long_block(),
+            28 if self.chance.one_in(2) => self.long_block(),
             _ => self.clear(),
         }
         self.go_on_a_while();

@@ -151,7 +151,7 @@ impl Maker {
             17..=18 => self.play_damaged(),
             19 => self.carry_monotonous(),
             20 => self.carry_bytes(),
-            _ if self.chance.one_in(6) => self.carry_long(),
+            _ if self.chance.one_in(4) => self.carry_long(),
             _ => {}
         }
         self.go_on_a_while();

@@ -31,12 +31,12 @@ impl Maker {
     /// Closes the SF contact of the row, or those of other rows too, or only others.
     fn close_direct(&mut self, row: usize) {
         let rows = self.rows();
-        match self.chance.below(12) {
-            0 => self.closed.iter_mut().for_each(|sample| *sample |= SF),
-            1 => self.closed[..rows].iter_mut().for_each(|sample| *sample |= SF),
-            2 => self.closed[rows..].iter_mut().for_each(|sample| *sample |= SF),
-            3 => self.closed[(row + 1) % 8] |= SF,
-            4 => self.closed[(row + 7) % 8] |= SF,
+        match self.chance.below(13) {
+            0..=1 => self.closed.iter_mut().for_each(|sample| *sample |= SF),
+            2 => self.closed[..rows].iter_mut().for_each(|sample| *sample |= SF),
+            3 => self.closed[rows..].iter_mut().for_each(|sample| *sample |= SF),
+            4 => self.closed[(row + 1) % 8] |= SF,
+            5 => self.closed[(row + 7) % 8] |= SF,
             _ => self.closed[row] |= SF,
         }
         if self.chance.one_in(6) {

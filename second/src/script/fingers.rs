@@ -75,15 +75,15 @@ impl Maker {
 
     /// A finger moves or time passes; now and then the module is set anew under the fingers.
     pub(super) fn move_fingers(&mut self) {
-        match self.chance.below(24) {
+        match self.chance.below(26) {
             0..=5 => self.press(),
             6..=11 => self.release(),
             12..=15 => self.wait_some(),
             16..=18 => self.look_and_wait(),
-            19 => self.decline_and_wait(),
-            20 => self.write_some(0x02, 1),
-            21 => self.write_some(0x02, 2),
-            22 => self.write_some(0x03, 1),
+            19..=21 => self.decline_and_wait(),
+            22 => self.write_some(0x02, 1),
+            23 => self.write_some(0x02, 2),
+            24 => self.write_some(0x03, 1),
             _ => self.reset_and_wait(),
         }
         match self.chance.below(4) {

@@ -29,7 +29,7 @@ pub(super) fn packed(calls: &[Call]) -> Vec<u8> {
 impl Maker {
     /// A call that fits in a list. Some are declined when they are played.
     fn some_call(&mut self) -> Call {
-        match self.chance.below(24) {
+        match self.chance.below(26) {
             0..=10 => self.some_look(),
             11..=15 => {
                 let (first, most) = self.chance.pick(&READS);
@@ -42,6 +42,7 @@ impl Maker {
             }
             19 => Call::Look((0..8).map(|_| self.chance.bits() as u16 & 0x1FFF).collect()),
             20 => Call::Reset,
+            21..=22 => self.some_pin_access(),
             _ => self.some_access(),
         }
     }

@@ -22,12 +22,28 @@ const READS: [(u8, usize); 10] = [
 /// The writes that can be done: first address, longest length.
 const WRITES: [(u8, usize); 5] = [(0x02, 2), (0x03, 1), (0x08, 2), (0x09, 1), (0x84, 1)];
 
-/// The number that an access is to give, by a list of those that can be done.
-fn expected(list: &[(u8, usize)], first: u8, length: usize) -> char {
+/// The runs of pin registers that can be read: first address, length. Any part of them can be.
+const PIN_READS: [(u8, usize); 8] =
+    [(0x91, 1), (0xAA, 6), (0xC0, 1), (0xC2, 1), (0xC4, 1), (0xC6, 15), (0xD6, 6), (0xE0, 6)];
+
+/// The runs of pin registers that can be written.
+const PIN_WRITES: [(u8, usize); 4] = [(0xAA, 6), (0xC0, 21), (0xDC, 3), (0xE0, 6)];
+
+/// Whether an access stays within one of these runs.
+fn is_part(runs: &[(u8, usize)], first: u8, length: usize) -> bool {
+    let within = |start: u8, longest: usize| {
+        first >= start && usize::from(first - start) + length <= longest
+    };
+    runs.iter().any(|(start, longest)| within(*start, *longest))
+}
+
+/// The number that an access is to give, by lists of those that can be done.
+fn expected(list: &[(u8, usize)], runs: &[(u8, usize)], first: u8, length: usize) -> char {
     match length {
         0 => '3',
         33.. => '4',
         _ if list.iter().any(|entry| entry.0 == first && length <= entry.1) => '0',
+        _ if is_part(runs, first, length) => '0',
         _ => '5',
     }
 }
@@ -43,7 +59,7 @@ fn every_read() {
     for first in 0..=255 {
         for length in 0..=40 {
             let line = format!("read {first:02X} {length}");
-            assert_eq!(number(&line), expected(&READS, first, length), "{line}");
+            assert_eq!(number(&line), expected(&READS, &PIN_READS, first, length), "{line}");
         }
     }
 }
@@ -53,7 +69,7 @@ fn every_write_of_good_bytes() {
     for first in 0..=255 {
         for length in 0..=40 {
             let line = repeated(&format!("write {first:02X}"), "22", length);
-            assert_eq!(number(&line), expected(&WRITES, first, length), "{line}");
+            assert_eq!(number(&line), expected(&WRITES, &PIN_WRITES, first, length), "{line}");
         }
     }
 }
@@ -64,8 +80,8 @@ fn every_write_of_bytes_that_are_no_size() {
         for length in 0..=40 {
             let line = repeated(&format!("write {first:02X}"), "1C", length);
             let bad = (first == 0x03 && length == 1) || (first == 0x02 && length == 2);
-            let number_expected = if bad { '6' } else { expected(&WRITES, first, length) };
-            assert_eq!(number(&line), number_expected, "{line}");
+            let good = expected(&WRITES, &PIN_WRITES, first, length);
+            assert_eq!(number(&line), if bad { '6' } else { good }, "{line}");
         }
     }
 }

@@ -1,17 +1,17 @@
 //! Fingers on the contacts: `press`, `release` and `wait`, and what sets the contacts.
 
 use crate::session;
-use second::calls::Calls;
+use second::calls::{Calls, Driven, PINS};
 use second::console::Console;
 use second::module::Module;
 use std::cell::RefCell;
 use std::rc::Rc;
 
 /// The samples of every look that a console has made.
-type Looks = Rc<RefCell<Vec<Vec<u16>>>>;
+pub type Looks = Rc<RefCell<Vec<Vec<u16>>>>;
 
 /// A module that keeps the looks made, with KBDBOUNCE as it is here. It declines all looks but
-/// the first few with number 8.
+/// the first few with number 8, and all that is asked of its pins.
 struct Watched {
     looks: Looks,
     bounce: u8,
@@ -47,6 +47,10 @@ impl Calls for Watched {
         0
     }
 
+    fn pins(&mut self, _: u32) -> u8 {
+        8
+    }
+
     fn held(&self, _: u8, _: u8) -> (u8, bool) {
         (0, false)
     }
@@ -54,10 +58,14 @@ impl Calls for Watched {
     fn interrupt(&self) -> (u8, bool) {
         (0, false)
     }
+
+    fn drive(&self) -> (u8, Driven) {
+        (8, [None; PINS])
+    }
 }
 
 /// A console over a watched module, and its looks.
-fn watched(bounce: u8, done: usize) -> (Console, Looks) {
+pub fn watched(bounce: u8, done: usize) -> (Console, Looks) {
     let looks = Looks::default();
     let module = Watched { looks: Rc::clone(&looks), bounce, done };
     (Console::over(Box::new(module)), looks)

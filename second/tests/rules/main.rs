@@ -7,6 +7,7 @@ mod fingers;
 mod groups;
 mod hidden;
 mod language;
+mod pins;
 mod playing;
 mod readings;
 mod sessions;
@@ -41,9 +42,16 @@ fn after(lines: &[String]) -> Console {
     console
 }
 
-/// What shows a panel and its contacts: flags and settings, codes that wait, the picture and the
-/// flag that it clears, samples under way, and at last the contacts as they are.
-const SHOWING: [&str; 17] = [
+/// What shows a panel and its contacts: pins and their registers, flags and settings, codes that wait,
+/// the picture and the flag that it clears, samples under way, and at last the contacts as they are.
+const SHOWING: [&str; 24] = [
+    "drive",
+    "read 91 1",
+    "read AA 6",
+    "read C0 1",
+    "read C6 15",
+    "read D6 6",
+    "read E0 6",
     "irq",
     "read 06 2",
     "read 09 1",

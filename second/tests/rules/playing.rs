@@ -7,6 +7,7 @@ use second::chance::Chance;
 use second::console::Console;
 use second::script::script;
 use second::typed::text;
+use second::words::words;
 
 // Playing.
 
@@ -226,7 +227,9 @@ fn a_played_list_is_recorded_as_a_reset_and_its_calls() {
 #[test]
 fn a_recorded_session_plays_to_the_same_panel() {
     for seed in 1..9 {
-        let lines = script(seed, 2500);
+        let mut lines = script(seed, 2500);
+        // A list has no record for them.
+        lines.retain(|line| words(line).first() != Some(&&b"pins"[..]));
         let mut console = Console::new();
         console.record();
         lines.iter().for_each(|line| drop(console.answer(line)));

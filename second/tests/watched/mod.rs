@@ -1,6 +1,8 @@
 //! A module whose looks are counted by what they hide.
 
-use second::calls::Calls;
+pub mod pins;
+
+use second::calls::{Calls, Driven};
 use second::console::Console;
 use second::module::Module;
 use second::script::Line;
@@ -166,12 +168,20 @@ impl Calls for Watched {
         self.module.read(first, buffer)
     }
 
+    fn pins(&mut self, sample: u32) -> u8 {
+        self.module.pins(sample)
+    }
+
     fn held(&self, row: u8, column: u8) -> (u8, bool) {
         self.module.held(row, column)
     }
 
     fn interrupt(&self) -> (u8, bool) {
         self.module.interrupt()
+    }
+
+    fn drive(&self) -> (u8, Driven) {
+        self.module.drive()
     }
 }
 

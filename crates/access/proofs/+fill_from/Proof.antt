@@ -6,7 +6,8 @@ use lib.ListN.{length, length-take, length-drop, length-set}
 use borrow.Author.Needs.{needs}
 use Rattle.state.specs.declared.Module.{Module}
 use Rattle.access.specs.Lent.{lent}
-use Rattle.access.proofs.Laws.{read-end, read-last, back-length, read-more}
+use Rattle.access.proofs.Laws.{read-end, read-last, rest-length, back-length, read-more}
+use Rattle.access.proofs.Pins.{next-most, told-no-pin}
 use borrow.Fn.Kinds.{In}
 use borrow.Fn.PlainCycle.{Measures, is, falls, and}
 use Rattle.access.proofs.fill_from.Reads as fill-from
@@ -52,7 +53,10 @@ fill-from-register-at-requires : (t : ℕ) → fill-from-lts.Need-register-at-re
 fill-from-register-at-requires t c κs = search needs
 
 fill-from-read-byte-requires : (t : ℕ) → fill-from-lts.Need-read-byte-requires (claims t) (fill-from-at t) fill-from.Post
-fill-from-read-byte-requires t c κs = search needs
+fill-from-read-byte-requires t c κs =
+    let s = c .before .before .before .before .before .before .before in
+    let low : s .args .first < 0x91 = omega (arith, s .pre .1, c .before .before .before .before .before .if1 .left) in
+    told-no-pin (c .register-at .result) (s .args .first) (c .register-at .ensures) low
 
 fill-from-slice-write-out : (t : ℕ) → fill-from-lts.Need-slice-write-out (claims t) (fill-from-at t) fill-from.Post
 fill-from-slice-write-out t c = search needs
@@ -82,7 +86,12 @@ fill-from-part-fill-from-end t c = simp length-set (omega arith)
 fill-from-fill-from-requires : (t : ℕ) → fill-from-lts.Need-fill-from-requires (claims t) (fill-from-at t) fill-from.Post
 fill-from-fill-from-requires t c κs =
     let s = c .before .before .before .before .before .before .before .before .before .before .before .before .before .before .before in
-    (simp (length-take, length-drop, length-set) (omega (arith, s .pre .0)), s .pre .1)
+    let b = c .before .before .before .before .before .before .before .read-byte .result in
+    let least = c .before .before .before .before .before .before .before .before .before .before .before .before .before .if1 .left in
+    let next = next-most (s .args .first) in (
+      simp (length-take, length-drop, length-set) (omega (arith, s .pre .0)),
+      omega (arith, s .pre .1, least, rest-length (s .args .out .now) b least, c .before .before .before .before .before .next-address .ensures, next),
+    )
 
 fill-from-same-length-2 : (t : ℕ) → fill-from-lts.Need-same-length-2 (claims t) (fill-from-at t) fill-from.Post
 fill-from-same-length-2 t c =

@@ -3,10 +3,13 @@
 use Prim.Native.Nat.{_+_, _-_}
 use native.Mathlib.Omega.{arith}
 use mathlib.Core.Path.{_≡_, sym, _∙_}
-use borrow.Author.Tests.{eqb-true}
+use borrow.Author.Tests.{eqb-true, eq-eqb}
 use lib.ListN.{length}
+use Rattle.words.proofs.Laws.{true-false}
+use Rattle.registers.specs.declared.Access.the-variants.{Read}
 use Rattle.registers.proofs.Laws.{picture-from, picture-to}
 use Rattle.access.proofs.Laws.{read-at}
+use Rattle.access.proofs.Pins.{keypad-run}
 use borrow.Author.Needs.{needs}
 use Rattle.access.proofs.fill.Statement.{statement}
 use Rattle.access.proofs.fill.Tie as tie
@@ -62,14 +65,27 @@ returns-2 c =
     let there : a .first ≡ 0x0B + (a .first - 0x0B) = omega arith in
     read-at (a .m) _ _ (a .first) (0x0B + (a .first - 0x0B)) (length (a .out .now)) there (c .before .before .fill-picture .ensures)
 
-fill-bytes-requires : tie.Need-fill-bytes-requires
-fill-bytes-requires c κs = search needs
+fill-pins-requires : tie.Need-fill-pins-requires
+fill-pins-requires c κs = c .before .if3 .taken
 
 same-length-3 : tie.Need-same-length-3
 same-length-3 c = search needs
 
 returns-3 : tie.Need-returns-3
-returns-3 c = search needs
+returns-3 c = c .before .before .fill-pins .ensures
+
+fill-bytes-requires : tie.Need-fill-bytes-requires
+fill-bytes-requires c κs =
+    let asked = c .before .before .before .before in
+    let s = asked .before .before .before in
+    let away : s .args .first ≡ 0x10 → ⊥ = λ e. true-false (sym (eq-eqb (s .args .first) 0x10 e) ∙ sym (asked .before .stays .ensures) ∙ asked .if1 .left) in
+    keypad-run Read (length (s .args .out .now)) (s .args .first) (c .before .if3 .left) away (s .pre)
+
+same-length-4 : tie.Need-same-length-4
+same-length-4 c = search needs
+
+returns-4 : tie.Need-returns-4
+returns-4 c = c .before .before .fill-bytes .ensures
 
 pub fill-spec : {M : Type 1} → statement M
 fill-spec =
@@ -85,6 +101,9 @@ fill-spec =
     fill-picture-requires
     same-length-2
     returns-2
-    fill-bytes-requires
+    fill-pins-requires
     same-length-3
-    returns-3)
+    returns-3
+    fill-bytes-requires
+    same-length-4
+    returns-4)

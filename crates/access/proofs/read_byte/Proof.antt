@@ -1,6 +1,10 @@
 -- `access::read_byte` meets its contract: each arm by the register that its match told, and by what the parts lent on came back as.
 -- Assumes nothing.
-use mathlib.Core.Path.{refl}
+use mathlib.Core.Path.{refl, sym, ap, _∙_}
+use Rattle.words.proofs.Laws.{true-false}
+use Rattle.registers.specs.declared.Register.{Register}
+use Rattle.registers.specs.declared.Register.the-variants.{PIN}
+use Rattle.registers.specs.Registers.{_is_, address}
 use Rattle.flags.specs.Flags.{ris, mis}
 use Rattle.access.specs.Bytes.{byteOf, readOut}
 use Rattle.access.proofs.Laws.{read-by, shown-code, taken-code}
@@ -53,6 +57,9 @@ enum-told-8 c = search needs
 enum-told-9 : tie.Need-enum-told-9
 enum-told-9 c = search needs
 
+enum-told-10 : tie.Need-enum-told-10
+enum-told-10 c = search needs
+
 returns : tie.Need-returns
 unfolding byteOf readOut
 returns c = λ m. read-by _ _ _ _ _ (c .enum-told .given .1) (refl, refl)
@@ -87,9 +94,14 @@ returns-9 : tie.Need-returns-9
 unfolding byteOf readOut
 returns-9 c = λ m. read-by _ _ _ _ _ (c .enum-told8 .given .1) (refl, refl)
 
+-- no register of the pins is asked for
 returns-10 : tie.Need-returns-10
+unfolding _is_ address
+returns-10 c = true-false (ap (λ (r : Register). r is PIN 0x91) (sym (c .enum-told9 .given .1)) ∙ c .before .before .pre)
+
+returns-11 : tie.Need-returns-11
 unfolding byteOf readOut
-returns-10 c = λ m. read-by _ _ _ _ _ (c .enum-told9 .given .1) (refl, refl)
+returns-11 c = λ m. read-by _ _ _ _ _ (c .enum-told10 .given .1) (refl, refl)
 
 pub read-byte-spec : {M : Type 1} → statement M
 read-byte-spec =
@@ -110,6 +122,7 @@ read-byte-spec =
     take-oldest-requires
     enum-told-8
     enum-told-9
+    enum-told-10
     returns
     returns-2
     returns-3
@@ -119,4 +132,5 @@ read-byte-spec =
     returns-7
     returns-8
     returns-9
-    returns-10)
+    returns-10
+    returns-11)

@@ -1,7 +1,7 @@
 -- `access::written` meets its contract: each arm by the register that its match told.
 -- Assumes nothing.
 use mathlib.Core.Path.{_∙_}
-use Rattle.state.specs.Module.{withRsint, withRklint, withRelint, withPorirq}
+use Rattle.state.specs.Module.{withRsint, withRklint, withRelint, withPorirq, withPins}
 use Rattle.access.specs.Bytes.{written}
 use Rattle.access.proofs.Laws.{written-by}
 use borrow.Author.Needs.{needs}
@@ -50,6 +50,12 @@ enum-told-9 c = search needs
 cleared-requires-4 : tie.Need-cleared-requires-4
 cleared-requires-4 c κs = search needs
 
+enum-known-register : tie.Need-enum-known-register
+enum-known-register c = search needs
+
+written-requires : tie.Need-written-requires
+written-requires c κs = search needs
+
 enum-told-10 : tie.Need-enum-told-10
 enum-told-10 c = search needs
 
@@ -96,7 +102,13 @@ returns-9 c =
 
 returns-10 : tie.Need-returns-10
 unfolding written
-returns-10 c = let a = c .before .before .args in written-by (a .m) (a .b) _ _ (c .enum-told10 .given .1)
+returns-10 c =
+    let a = c .before .before .before .before .args in
+    (λ i. withPins (a .m) (c .written .ensures i)) ∙ written-by (a .m) (a .b) _ _ (c .before .before .register .given .1)
+
+returns-11 : tie.Need-returns-11
+unfolding written
+returns-11 c = let a = c .before .before .args in written-by (a .m) (a .b) _ _ (c .enum-told10 .given .1)
 
 pub written-spec : {M : Type 1} → statement M
 written-spec =
@@ -116,6 +128,8 @@ written-spec =
     enum-told-8
     enum-told-9
     cleared-requires-4
+    enum-known-register
+    written-requires
     enum-told-10
     returns
     returns-2
@@ -126,4 +140,5 @@ written-spec =
     returns-7
     returns-8
     returns-9
-    returns-10)
+    returns-10
+    returns-11)

@@ -48,11 +48,11 @@ of-samples-requires c κs = search needs
 
 returns : tie.Need-returns Inv-loop μ-loop
 unfolding MadeOn
-returns c = λ mask porirq ok.
+returns c = λ mask porirq pins ok.
     let l = c .before .before .before .before .loop in
     let s = c .before .before .before .before .before .before .args .samples .now in
     let e = c .before .of-samples .ensures in
-    ap (ended _ (l .done)) e ∙ walked-stop _ _ s _ _ _ (l .done) (c .before .before .before .loop-test .taken) (l .inv .1) _ (eight s (l .done)) (λ z. c .if1 .taken (e ∙ z)) mask porirq ok
+    ap (ended _ (l .done)) e ∙ walked-stop _ _ s _ _ _ (l .done) (c .before .before .before .loop-test .taken) (l .inv .1) _ (eight s (l .done)) (λ z. c .if1 .taken (e ∙ z)) mask porirq pins ok
 
 mul-look-on : tie.Need-mul-look-on Inv-loop μ-loop
 mul-look-on c = search needs
@@ -88,10 +88,10 @@ loop-again c =
 
 returns-2 : tie.Need-returns-2 Inv-loop μ-loop
 unfolding MadeOn
-returns-2 c = λ mask porirq ok.
+returns-2 c = λ mask porirq pins ok.
     let l = c .before .loop in
     let s = c .before .before .before .args .samples .now in
-    walked-all _ _ s (length s / 8) _ _ (l .done) (omega arith) (l .inv .1) mask porirq ok
+    walked-all _ _ s (length s / 8) _ _ (l .done) (omega arith) (l .inv .1) mask porirq pins ok
 
 pub look-by-look-spec : {M : Type 1} → statement M
 look-by-look-spec =

@@ -10,14 +10,14 @@ look-by-look-requires : tie.Need-look-by-look-requires
 look-by-look-requires c κs =
     let s = c .before .before .before .before .before .before .before .before .before .before .before .before .before in
     let m = s .args .m in
-    record { keys = search needs; runs = search needs; places = search needs; low = search needs; ok = bare (m .bounce) (m .size) _ (m .mask) (m .porirq) (s .pre) }
+    record { keys = search needs; runs = search needs; places = search needs; low = search needs; ok = bare (m .bounce) (m .size) _ (m .mask) (m .porirq) (m .pins) (s .pre) }
 
 returns : tie.Need-returns
 unfolding MadeOn
 returns c =
     let s = c .before .before .before .before .before .before .before .before .before .before .before .before .before .before in
     let m = s .args .m in
-    c .look-by-look .ensures (m .mask) (m .porirq) (s .pre)
+    c .look-by-look .ensures (m .mask) (m .porirq) (m .pins) (s .pre)
 
 pub looks-of-sound-spec : {M : Type 1} → statement M
 looks-of-sound-spec = tie.close (tie.spec look-by-look-requires returns)

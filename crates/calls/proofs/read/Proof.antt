@@ -3,6 +3,8 @@
 use native.Mathlib.Omega.{arith}
 use mathlib.Core.Path.{sym, _∙_}
 use borrow.Author.Tests.{not-true, not-false}
+use lib.ListN.{length}
+use Rattle.judge.proofs.Laws.{read-allowed}
 use Rattle.calls.specs.Calls.{readNumber, readCall}
 use Rattle.calls.proofs.Laws.{unsound-first, sound-then, outcome-done, outcome-declined, buffer-done, buffer-declined}
 use borrow.Author.Needs.{needs}
@@ -31,7 +33,9 @@ returns-2 c =
     (outcome-declined (a .m) _ _ _ bad (c .if2 .taken), buffer-declined (a .m) _ (a .out .now) _ bad (c .if2 .taken))
 
 fill-requires : tie.Need-fill-requires
-fill-requires c κs = search needs
+fill-requires c κs =
+    let a = c .before .before .before .before .before .before .args in
+    read-allowed (a .first) (length (a .out .now)) (sym (c .before .before .of-read .ensures) ∙ c .before .if2 .left)
 
 same-length : tie.Need-same-length
 same-length c = search needs

@@ -14,23 +14,23 @@ look-at-rows-requires c κs = search needs
 
 returns : tie.Need-returns
 unfolding LookedOn noticed forgotten
-returns c = λ mask porirq.
+returns c = λ mask porirq pins.
     let x = c .before .before .look-at-rows .last in
     let s = c .before .before .before .before .before .before .before .before .before .before in
     let a = s .args in
     walked
-    (whole (a .bounce) (a .size) (altered (a .held .now) (a .run .now) (queue (a .places .now) (a .count .now) (a .relint .now)) (a .rsint .now) (a .rklint .now) (a .seen .now)) mask porirq)
+    (whole (a .bounce) (a .size) (altered (a .held .now) (a .run .now) (queue (a .places .now) (a .count .now) (a .relint .now)) (a .rsint .now) (a .rklint .now) (a .seen .now)) mask porirq pins)
     (a .samples .now) (s .pre .3) (s .pre .1) (s .pre .2)
     {p = parts (x .0) (x .1 .0) (queue (x .1 .1 .0) (x .1 .1 .1 .0) (x .1 .1 .1 .1 .0)) (x .1 .1 .1 .1 .1 .0)} (c .before .before .look-at-rows .ensures) true (c .before .if1 .taken)
 
 returns-2 : tie.Need-returns-2
 unfolding LookedOn
-returns-2 c = λ mask porirq.
+returns-2 c = λ mask porirq pins.
     let x = c .before .look-at-rows .last in
     let s = c .before .before .before .before .before .before .before .before .before in
     let a = s .args in
     walked
-    (whole (a .bounce) (a .size) (altered (a .held .now) (a .run .now) (queue (a .places .now) (a .count .now) (a .relint .now)) (a .rsint .now) (a .rklint .now) (a .seen .now)) mask porirq)
+    (whole (a .bounce) (a .size) (altered (a .held .now) (a .run .now) (queue (a .places .now) (a .count .now) (a .relint .now)) (a .rsint .now) (a .rklint .now) (a .seen .now)) mask porirq pins)
     (a .samples .now) (s .pre .3) (s .pre .1) (s .pre .2)
     {p = parts (x .0) (x .1 .0) (queue (x .1 .1 .0) (x .1 .1 .1 .0) (x .1 .1 .1 .1 .0)) (x .1 .1 .1 .1 .1 .0)} (c .before .look-at-rows .ensures) false (c .if1 .left)
 

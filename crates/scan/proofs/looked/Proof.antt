@@ -12,7 +12,7 @@ returns : tie.Need-returns
 unfolding LookedOn
 returns c =
     let m = c .before .before .before .before .before .before .before .before .before .before .before .before .before .before .args .m in
-    c .look-on .ensures (m .mask) (m .porirq)
+    c .look-on .ensures (m .mask) (m .porirq) (m .pins)
 
 pub looked-spec : {M : Type 1} → statement M
 looked-spec = tie.close (tie.spec look-on-requires returns)

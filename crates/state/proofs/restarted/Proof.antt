@@ -12,7 +12,7 @@ fresh-requires c κs = search needs
 
 returns : tie.Need-returns
 unfolding restarted
-returns c = let a = c .before .args in ap (λ (f : Module). anew f (a .m) (a .size)) (c .fresh .ensures)
+returns c = let a = c .before .before .args in ap (λ (f : Module). anew f (a .m) (a .size)) (c .before .fresh .ensures)
 
 pub restarted-spec : {M : Type 1} → statement M
 restarted-spec = tie.close (tie.spec fresh-requires returns)
