@@ -5,13 +5,17 @@
 int printf(const char *format, ...);
 void *memset(void *to, int byte, size_t count);
 
-enum { STORM = 64, LISTED = 64, ROOM = 1024, CODES = 30000, LONG = 3000, SHORT = 300, MIDDLE = 145, TRIM = 0x3C, OTHER = 0x21 };
+enum { STORM = 64, LISTED = 64, ROOM = 1024, CODES = 30000, LONG = 3000, SHORT = 300, MIDDLE = 145, TRIM = 0x3C, OTHER = 0x21,
+       NIGHT = 255 };
 
-/* The modules. */
+/* The modules. All but one are awake, and no quiet look is counted. */
 static struct panel calm;    /* size 8C, D 3, three keys held, nothing new */
 static struct panel small;   /* the same in size 22, two keys held */
 static struct panel seen;    /* as calm, two keys held, no special function key among them */
 static struct panel hidden;  /* the same, and every special function key held: all rows are hidden */
+static struct panel half;    /* as calm, no key held but row 2's special function key, and a key of that row half pressed, which it hides */
+static struct panel idling;  /* as calm, no key held */
+static struct panel asleep;  /* as calm, after 255 quiet looks */
 static struct panel open;    /* size 8C, D 1, no key held */
 static struct panel full;    /* 15 codes wait, five keys held, every flag of a change set */
 static struct panel none;    /* the same, no key held */
@@ -29,6 +33,11 @@ static const uint16_t small_looks[][8] = {{0x0001, 0x1000, 0, 0, 0, 0, 0, 0}};
 /* The same with every special function contact open, and with every one closed. */
 static const uint16_t seen_looks[][8] = {{0x0002, 0, 0, 0x0020, 0, 0, 0, 0}};
 static const uint16_t hidden_looks[][8] = {{0x1002, 0x1000, 0x1000, 0x1020, 0x1000, 0x1000, 0x1000, 0x1000}};
+
+/* Nothing closed; and what leaves a key of row 2 half pressed, first seen, then hidden. */
+static const uint16_t no_looks[][8] = {{0}};
+static const uint16_t half_seen[8] = {0, 0, 0x0010, 0, 0, 0, 0, 0};
+static const uint16_t half_looks[][8] = {{0, 0, 0x1010, 0, 0, 0, 0, 0}};
 
 /* Typing: beside those keys, row 2 column 4 and row 5 column 9 close and open again, bouncing as they do. */
 #define TYPED(one, other) {0x0002, 0, (one) << 4, 0x0020, 0, (other) << 9, 0, 0x1000}
@@ -86,6 +95,9 @@ const struct measured cases[] = {
     LOOKS("look: all SF open, storm", seen, seen_storm, 8, 0),
     LOOKS("look: all SF closed, calm", hidden, hidden_looks, 8, 0),
     LOOKS("look: all SF closed, storm", hidden, hidden_storm, 8, 0),
+    LOOKS("look: nothing held, calm", idling, no_looks, 8, 0),
+    LOOKS("look: asleep, calm", asleep, calm_looks, 8, 0),
+    LOOKS("look: a run under SF", half, half_looks, 8, 0),
     LOOKS("look: burst of 16", open, burst_looks, 8, 0),
     LOOKS("look: size 22, calm", small, small_looks, 8, 0),
     BLOCKS("block: 1 look", calm, typing_looks, 16, 1 * 8, 0),
@@ -158,6 +170,8 @@ const struct measured cases[] = {
     CUTS("declined 23: groups", GROUPS, PANEL_NO_CODE, SHORT, SHORT, 23),
     CUTS("declined 25: group", GROUP, TRIM, SHORT, MIDDLE + 1, 25),
     SAMPLES("declined 26: pins", watched, 0xD5555, 26),
+    WRITES("declined 27: write", asleep, PANEL_KBDBOUNCE, 0x05, 0, 1, 27),
+    READS("declined 27: read", asleep, PANEL_EVTCODE, 15, 27),
 };
 
 const unsigned case_count = sizeof cases / sizeof cases[0];
@@ -195,6 +209,14 @@ static struct panel settled(struct panel panel, const uint16_t *samples)
     gave(panel_look(&panel, samples, 8));
     gave(panel_read(&panel, PANEL_EVTCODE, codes, sizeof codes));
     gave(panel_write(&panel, PANEL_KBDIC, &all, 1));
+    return panel;
+}
+
+/* A module after so many looks. */
+static struct panel looked_at(struct panel panel, const uint16_t *samples, unsigned looks)
+{
+    while (looks-- > 0)
+        gave(panel_look(&panel, samples, 8));
     return panel;
 }
 
@@ -263,6 +285,9 @@ static void make_modules(void)
     small = settled(sized(0x22, 3), small_looks[0]);
     seen = settled(sized(0x8C, 3), seen_looks[0]);
     hidden = settled(seen, hidden_looks[0]);
+    half = settled(looked_at(sized(0x8C, 3), half_seen, 1), half_looks[0]);
+    idling = sized(0x8C, 3);
+    asleep = looked_at(calm, calm_looks[0], NIGHT);
     open = sized(0x8C, 1);
     none = filled(no_key);
     one = filled(a_key);
@@ -275,6 +300,19 @@ static void make_modules(void)
     lit = outputs();
     unsound = full;
     memset(unsound.seen, 1, sizeof unsound.seen);
+}
+
+/* Is a module as said: does it sleep, with so many quiet looks counted and so long a run of the key that is half pressed? */
+static bool is_so(const struct panel *panel, bool sleeps, unsigned quiet, unsigned run)
+{
+    return panel->asleep == sleeps && panel->quiet == quiet && panel->run[2 * PANEL_COLS + 4] == run;
+}
+
+/* Are the modules that have to do with sleep as said? Of the others a case with an access tells. */
+static bool sleep_as_said(void)
+{
+    return is_so(&calm, false, 0, 0) && is_so(&seen, false, 0, 0) && is_so(&hidden, false, 0, 0) && is_so(&small, false, 0, 0) && is_so(&idling, false, 0, 0)
+        && is_so(&asleep, true, NIGHT, 0) && is_so(&half, false, 0, 1);
 }
 
 /* The session, and its list. */
@@ -378,6 +416,10 @@ bool prepare(const struct face *const *faces, unsigned face_count)
     make_codes();
     if (declined != PANEL_DONE) {
         printf("a module of the cases can't be made: a call gives %u\n", declined);
+        return false;
+    }
+    if (!sleep_as_said()) {
+        printf("a module of the cases sleeps, or doesn't, or has another run than it must\n");
         return false;
     }
     for (i = 0; i < case_count; i++) {

@@ -1,5 +1,6 @@
 /*
- * Random lists, good and bad, packed at once and one by one, into rooms about the need; random bytes, and packed lists cut or changed, unpacked and played.
+ * Random lists, good and bad, packed at once and one by one, into rooms about the need; random bytes, and packed lists cut or changed, unpacked and played;
+ * and long ones, in which the panel that plays falls asleep.
  * The number, every byte of buffer and module, length, place, call and end are compared after each.
  */
 #include "lists.h"
@@ -9,13 +10,16 @@ int printf(const char *format, ...);
 int memcmp(const void *a, const void *b, size_t count);
 void *memset(void *to, int byte, size_t count);
 
-enum { MOST = 12, ROOM = MOST * PANEL_RECORD };
+enum { MOST = 12, ROOM = MOST * PANEL_RECORD, NIGHT = 264, LONGEST = 2 * (NIGHT + 4) };
 
 enum call { PACK, PACK_NEXT, UNPACK, PLAY, CALLS };
 static const char *const names[] = {"pack", "pack next", "unpack", "play"};
 
 /* How often each call gave each number. */
 static unsigned given[CALLS][PANEL_NO_ROOM + 1];
+
+/* Long lists that were played, and how many of them ended asleep. */
+static unsigned nights, ended_asleep;
 
 /* What a call of each side is given and leaves. */
 struct side {
@@ -161,6 +165,46 @@ static bool one_list(void)
     return unpacks(bytes, length, begin) && unpacks(bytes, length, place) && plays(bytes, length);
 }
 
+/* Looks at contacts that don't move, few of them closed, in about the number that it takes to sleep; how many. */
+static size_t some_night(struct panel_call *calls)
+{
+    struct panel_call look = {PANEL_LOOK, 0, PANEL_ROWS, {0}};
+    size_t i, count = NIGHT - below(15);
+    look.values[below(PANEL_ROWS)] = (uint16_t)(1u << below(PANEL_COLS));
+    look.values[below(2)] = (uint16_t)(1u << below(2));
+    for (i = 0; i < count; i++)
+        calls[i] = look;
+    return count;
+}
+
+/* Up to three calls other than looks, which fit; how many. */
+static size_t some_accesses(struct panel_call *calls)
+{
+    size_t count = 0, wanted = below(4);
+    while (count < wanted) {
+        calls[count] = some_call();
+        count += calls[count].kind % 4 != PANEL_LOOK && calls[count].count >= 1 && calls[count].count <= PANEL_BYTES;
+    }
+    return count;
+}
+
+/* One long list: a night, some accesses, and the same again; played. */
+static bool one_night(void)
+{
+    static struct panel_call calls[LONGEST];
+    static uint8_t bytes[LONGEST * PANEL_RECORD];
+    uint64_t length;
+    size_t count = some_night(calls);
+    count += some_accesses(calls + count);
+    count += some_night(calls + count);
+    count += some_accesses(calls + count);
+    if (faces[1]->pack(calls, count, bytes, sizeof bytes, &length) != PANEL_DONE || !plays(bytes, length))
+        return false;
+    nights++;
+    ended_asleep += sides[0].panel.asleep;
+    return true;
+}
+
 bool compare_lists(const struct face *one, const struct face *other)
 {
     unsigned i;
@@ -169,7 +213,7 @@ bool compare_lists(const struct face *one, const struct face *other)
     faces[1] = other;
     memset(sides, 0, sizeof sides);
     for (i = 0; i < LISTS; i++) {
-        if (!one_list())
+        if (!one_list() || (i % 100 == 0 && !one_night()))
             return false;
     }
     return true;
@@ -188,5 +232,6 @@ bool all_lists_given(void)
             all = all && given[call][*number] > 0;
         }
     }
-    return all;
+    printf("  of %u long lists played %u left the panel asleep\n", nights, ended_asleep);
+    return all && ended_asleep > 10 && ended_asleep < nights;
 }

@@ -57,7 +57,7 @@ static inline void some_marks(struct panel *panel)
         panel->seen[below(4)] = below(2);
 }
 
-/* A sound module, its pins as after reset. */
+/* A sound module, its pins as after reset, with no quiet look counted. */
 static inline struct panel some_keypad(void)
 {
     struct panel panel;
@@ -75,6 +75,13 @@ static inline struct panel some_keypad(void)
     return panel;
 }
 
+/* Some quiet looks are counted, often as many as it takes to sleep, or nearly. */
+static inline void some_rest(struct panel *panel)
+{
+    panel->quiet = (uint8_t)(once_in(2) ? 253 + below(3) : below(256));
+    panel->asleep = panel->quiet == 255;
+}
+
 /* Pins: every value is sound. Mostly a sample came, half of the pins or few have an edge, and registers hold few bits, many or all. */
 static inline void some_pins(struct panel_pins *pins)
 {
@@ -88,7 +95,7 @@ static inline void some_pins(struct panel_pins *pins)
     pins->sampled = !once_in(6);
 }
 
-/* A sound module. */
+/* A sound module, with no quiet look counted. */
 static inline struct panel some_panel(void)
 {
     struct panel panel = some_keypad();

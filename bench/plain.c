@@ -5,11 +5,15 @@
 #include "face.h"
 
 /* What it uses of the C library. */
+int memcmp(const void *a, const void *b, size_t count);
 void *memset(void *to, int byte, size_t count);
 void *memmove(void *to, const void *from, size_t count);
 
 /* The column of the special function key. */
 #define SF 12
+
+/* Quiet looks in a row after which the panel sleeps. */
+#define QUIET_LOOKS 255
 
 /* All pins, a bit each. */
 #define ALL_PINS ((1u << PANEL_PINS) - 1)
@@ -82,7 +86,15 @@ static bool all_seen(const struct panel *panel)
 /* Is the module sound? */
 static bool sound(const struct panel *panel)
 {
-    return acceptable(panel->size) && keys_sound(panel) && queue_sound(panel) && panel->mask <= 0x0F && !all_seen(panel);
+    return acceptable(panel->size) && keys_sound(panel) && queue_sound(panel) && panel->mask <= 0x0F && !all_seen(panel)
+        && panel->asleep == (panel->quiet == QUIET_LOOKS);
+}
+
+/* Awake, with no quiet look counted. */
+static void wake(struct panel *panel)
+{
+    panel->quiet = 0;
+    panel->asleep = false;
 }
 
 /* All keys open, nothing waits, nothing noticed: what reset and a write of KBDSIZE share. */
@@ -95,6 +107,7 @@ static void restart(struct panel *panel, uint8_t size)
     panel->size = size;
     panel->rsint = panel->rklint = panel->relint = false;
     memset(panel->seen, 0, sizeof panel->seen);
+    wake(panel);
 }
 
 /* The pins after reset. */
@@ -121,35 +134,44 @@ static void put(struct panel *panel, uint8_t code)
         panel->relint = true;
 }
 
-/* One more sample of a key; has it changed? */
-static bool look_at(struct panel *panel, unsigned row, unsigned col, bool closed)
+/* What a look finds of keys, a bit each; 0 of a key that is at rest. */
+enum { CHANGED = 1, SETTLING = 2 };
+
+/* One more sample of a key. */
+static unsigned look_at(struct panel *panel, unsigned row, unsigned col, bool closed)
 {
     unsigned key = PANEL_COLS * row + col;
     if (closed == panel->held[key]) {
         panel->run[key] = 0;
-        return false;
+        return 0;
     }
     if (panel->run[key] + 1 < panel->bounce) {
         panel->run[key]++;
-        return false;
+        return SETTLING;
     }
     panel->held[key] = closed;
     panel->run[key] = 0;
     put(panel, (uint8_t)(16 * row + col + (closed ? 0 : PANEL_RELEASED)));
-    return true;
+    return CHANGED;
+}
+
+/* The hidden keys of a row keep their runs; out of the size these are 0. */
+static unsigned look_past(const struct panel *panel, unsigned row)
+{
+    static const uint8_t none[SF] = {0};
+    return memcmp(panel->run + PANEL_COLS * row, none, SF) != 0 ? SETTLING : 0;
 }
 
 /* One row's sample: the columns of the size, then the special function key; that one alone if its contact is closed, which hides the row. */
-static inline bool look_along(struct panel *panel, unsigned row, uint16_t sample)
+static inline unsigned look_along(struct panel *panel, unsigned row, uint16_t sample)
 {
-    unsigned col, cols = cols_of(panel->size);
-    bool changed = false;
+    unsigned col, cols = cols_of(panel->size), found = 0;
     if (sample >> SF & 1)
-        return look_at(panel, row, SF, true);
+        return look_past(panel, row) | look_at(panel, row, SF, true);
     for (col = 0; col < cols; col++)
-        changed |= look_at(panel, row, col, sample >> col & 1);
-    changed |= look_at(panel, row, SF, false);
-    return changed;
+        found |= look_at(panel, row, col, sample >> col & 1);
+    found |= look_at(panel, row, SF, false);
+    return found;
 }
 
 /* What a look with a change does to the flags and the marks. */
@@ -172,17 +194,27 @@ static bool samples_narrow(const uint16_t *samples)
     return true;
 }
 
+/* A quiet look: one more in a row. */
+static void rest(struct panel *panel)
+{
+    if (panel->quiet < QUIET_LOOKS)
+        panel->asleep = ++panel->quiet == QUIET_LOOKS;
+}
+
 /* One look at a sound module: its samples judged, then done row by row. Within its callers, so that a single look pays nothing for blocks. */
 __attribute__((always_inline)) static inline uint8_t look_over(struct panel *panel, const uint16_t *samples)
 {
-    unsigned row;
-    bool changed = false;
+    unsigned row, found = 0;
     if (!samples_narrow(samples))
         return PANEL_HIGH_BITS;
     for (row = 0; row < rows_of(panel->size); row++)
-        changed |= look_along(panel, row, samples[row]);
-    if (changed)
+        found |= look_along(panel, row, samples[row]);
+    if (found & CHANGED)
         notice(panel);
+    if (found)
+        wake(panel);
+    else
+        rest(panel);
     return PANEL_DONE;
 }
 
@@ -543,7 +575,7 @@ static uint8_t read_byte(struct panel *panel, unsigned address)
     }
 }
 
-/* A read access: judged whole, then done byte by byte. */
+/* A read access: asleep declined, and it wakes; else judged whole, then done byte by byte. */
 static uint8_t plain_read(struct panel *panel, uint8_t first, uint8_t *buffer, uint64_t count)
 {
     size_t i;
@@ -551,9 +583,14 @@ static uint8_t plain_read(struct panel *panel, uint8_t first, uint8_t *buffer, u
     uint8_t number;
     if (!sound(panel))
         return PANEL_UNSOUND;
+    if (panel->asleep) {
+        wake(panel);
+        return PANEL_ASLEEP;
+    }
     number = judge_read(first, count);
     if (number != PANEL_DONE)
         return number;
+    panel->quiet = 0;
     for (i = 0; i < count; i++, address = next(address))
         buffer[i] = read_byte(panel, address);
     return PANEL_DONE;
@@ -594,7 +631,7 @@ static void write_byte(struct panel *panel, unsigned address, uint8_t byte)
     }
 }
 
-/* A write access: judged whole, then done byte by byte. */
+/* A write access: asleep declined, and it wakes; else judged whole, then done byte by byte. */
 static uint8_t plain_write(struct panel *panel, uint8_t first, const uint8_t *bytes, uint64_t count)
 {
     size_t i;
@@ -602,9 +639,14 @@ static uint8_t plain_write(struct panel *panel, uint8_t first, const uint8_t *by
     uint8_t number;
     if (!sound(panel))
         return PANEL_UNSOUND;
+    if (panel->asleep) {
+        wake(panel);
+        return PANEL_ASLEEP;
+    }
     number = judge_write(first, bytes, count);
     if (number != PANEL_DONE)
         return number;
+    panel->quiet = 0;
     for (i = 0; i < count; i++, address = next(address))
         write_byte(panel, address, bytes[i]);
     return PANEL_DONE;

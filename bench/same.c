@@ -1,6 +1,7 @@
 /*
  * Do the archive and the plain C give the same answers? Random calls on random modules, sound and unsound:
  * the number, every byte of the module, every byte of the buffer, the answer, a block's looks done and the pins driven are compared after each.
+ * Between them nights: 250 to 260 looks at contacts that don't move, one by one and in blocks, with accesses around them.
  * What carries a session stands in lists.c, undo groups in groups.c.
  */
 #include "groups.h"
@@ -11,7 +12,7 @@ int printf(const char *format, ...);
 int memcmp(const void *a, const void *b, size_t count);
 void *memset(void *to, int byte, size_t count);
 
-enum { CALLS = 200000, ROOM = 320 };
+enum { CALLS = 200000, ROOM = 320, LONGEST = 260, SAMPLES = PANEL_ROWS * LONGEST };
 
 enum call { RESET, LOOK, BLOCK, WRITE, READ, HELD, INTERRUPT, SAMPLE, DRIVE };
 static const char *const names[] = {"reset", "look", "block", "write", "read", "held", "interrupt", "pins", "drive"};
@@ -32,7 +33,7 @@ struct side {
 /* A call's arguments, the same for both sides. */
 struct asked {
     enum call call;
-    uint16_t samples[ROOM];
+    uint16_t samples[SAMPLES];
     uint8_t bytes[ROOM];
     uint8_t first;
     uint8_t row;
@@ -42,13 +43,16 @@ struct asked {
 };
 
 /* How often each call gave each number. */
-static unsigned given[KINDS][PANEL_BAD_PINS + 1];
+static unsigned given[KINDS][PANEL_ASLEEP + 1];
 
 /* Single looks that were done, those that hid a row of the size, and those that hid a key with a run of D or more, as a lowered D leaves it. */
 static unsigned looked, hid, lowered;
 
 /* Pin samples that were done, and those that made an edge; questions that found a pin driven; lines asserted by a pin alone. */
 static unsigned sampled, edged, drove, by_pin;
+
+/* Nights; looks and blocks that put a panel to sleep, and that woke one; accesses declined asleep that would have been done or declined otherwise. */
+static unsigned nights, slept[KINDS], woken[KINDS], refused_done, refused_other;
 
 /* A size, mostly one that is acceptable. */
 static uint8_t some_size(void)
@@ -61,7 +65,7 @@ static uint8_t some_size(void)
 /* One byte of the module becomes another; a bool stays one. Mostly that makes it unsound. */
 static void hurt(struct panel *panel)
 {
-    switch (below(8)) {
+    switch (below(10)) {
     case 0:
         panel->size = (uint8_t)chance();
         break;
@@ -82,6 +86,12 @@ static void hurt(struct panel *panel)
         break;
     case 6:
         memset(panel->seen, 1, 4);
+        break;
+    case 7:
+        panel->asleep = !panel->asleep;
+        break;
+    case 8:
+        panel->quiet = (uint8_t)(once_in(2) ? 253 + below(3) : chance());
         break;
     default:
         panel->bounce = (uint8_t)chance();
@@ -254,8 +264,10 @@ static void disturb(struct side *a, struct side *b)
     a->done = b->done = ~(uint64_t)chance();
     a->driven = b->driven = chance();
     a->level = b->level = chance();
-    if (once_in(20))
+    if (once_in(20)) {
         a->panel = some_panel();
+        some_rest(&a->panel);
+    }
     if (once_in(20))
         hurt(&a->panel);
     b->panel = a->panel;
@@ -291,11 +303,108 @@ static void note_pins(const struct panel *was, const struct side *side, enum cal
     by_pin += call == INTERRUPT && side->yes && side->face->interrupt(&quiet, &yes) == PANEL_DONE && !yes;
 }
 
-/* Many calls on both; false at the first difference. */
+/* A call around sleep: who fell asleep, who woke, and what 27 went before. */
+static void note_sleep(const struct panel *was, const struct side *side, const struct asked *asked)
+{
+    struct side awake;
+    slept[asked->call] += !was->asleep && side->panel.asleep;
+    woken[asked->call] += was->asleep && !side->panel.asleep;
+    if (side->number != PANEL_ASLEEP)
+        return;
+    awake = *side;
+    make(&awake, asked);
+    refused_done += awake.number == PANEL_DONE;
+    refused_other += awake.number != PANEL_DONE;
+}
+
+/* A call on both; do they agree? */
+static bool both(struct side *a, struct side *b, const struct asked *asked)
+{
+    struct panel was = a->panel;
+    make(a, asked);
+    make(b, asked);
+    if (!agree(a, b)) {
+        printf("%s: %s gives %u, %s gives %u, or what is left differs\n", names[asked->call], a->face->name, a->number, b->face->name, b->number);
+        return false;
+    }
+    given[asked->call][a->number]++;
+    if (asked->call == LOOK && a->number == PANEL_DONE)
+        note_look(&was, asked->samples);
+    if (a->number == PANEL_DONE)
+        note_pins(&was, a, asked->call);
+    if (a->number == PANEL_DONE || a->number == PANEL_ASLEEP)
+        note_sleep(&was, a, asked);
+    return true;
+}
+
+/* The contacts as the keys are held, in as many looks as a night can have. */
+static void hold_still(struct asked *asked, const struct panel *panel)
+{
+    unsigned i, col;
+    for (i = 0; i < SAMPLES; i++) {
+        asked->samples[i] = 0;
+        for (col = 0; col < PANEL_COLS; col++)
+            asked->samples[i] |= (uint16_t)(panel->held[PANEL_COLS * (i % PANEL_ROWS) + col] << col);
+    }
+}
+
+/* A sound module to sleep: mostly no key has a run, so that none hidden is settling. */
+static struct panel some_sleeper(void)
+{
+    struct panel panel = some_panel();
+    if (!once_in(5))
+        memset(panel.run, 0, sizeof panel.run);
+    if (once_in(4))
+        some_rest(&panel);
+    return panel;
+}
+
+/* So many quiet looks, one by one or in blocks; now and then a call between them that is no look. Did both agree? */
+static bool lie_still(struct side *a, struct side *b, struct asked *still, unsigned looks)
+{
+    unsigned in_blocks = below(3), now;
+    while (looks > 0) {
+        now = in_blocks == 0 ? 1 : in_blocks == 1 ? looks : 1 + below(looks);
+        still->call = in_blocks == 0 ? LOOK : BLOCK;
+        still->count = PANEL_ROWS * now;
+        if (!both(a, b, still))
+            return false;
+        looks -= now;
+        if (once_in(in_blocks == 0 ? 300 : 6)) {
+            struct asked asked = some_call();
+            if (asked.call != LOOK && asked.call != BLOCK && !both(a, b, &asked))
+                return false;
+        }
+    }
+    return true;
+}
+
+/* A night: 250 to 260 looks at contacts that don't move; then some calls, mostly accesses. Did both agree? */
+static bool night(struct side *a, struct side *b)
+{
+    static struct asked still;
+    unsigned calls;
+    a->panel = b->panel = some_sleeper();
+    hold_still(&still, &a->panel);
+    if (!lie_still(a, b, &still, LONGEST - below(11)))
+        return false;
+    nights++;
+    for (calls = 1 + below(3); calls > 0; calls--) {
+        struct asked asked = some_call();
+        if (!once_in(4)) {
+            asked.call = once_in(2) ? WRITE : READ;
+            some_bytes(&asked);
+        }
+        if (!both(a, b, &asked))
+            return false;
+    }
+    return true;
+}
+
+/* Many calls on both, and nights between them; false at the first difference. */
 static bool compare(const struct face *one, const struct face *other)
 {
     static struct side a, b;
-    struct panel was;
     unsigned i;
     chance_from(20240517u);
     direct = 0;
@@ -304,19 +413,15 @@ static bool compare(const struct face *one, const struct face *other)
     a.panel = some_panel();
     for (i = 0; i < CALLS; i++) {
         struct asked asked = some_call();
-        disturb(&a, &b);
-        was = a.panel;
-        make(&a, &asked);
-        make(&b, &asked);
-        if (!agree(&a, &b)) {
-            printf("call %u, %s: %s gives %u, %s gives %u, or what is left differs\n", i, names[asked.call], one->name, a.number, other->name, b.number);
+        if (once_in(400) && !night(&a, &b)) {
+            printf("  in the night before call %u\n", i);
             return false;
         }
-        given[asked.call][a.number]++;
-        if (asked.call == LOOK && a.number == PANEL_DONE)
-            note_look(&was, asked.samples);
-        if (a.number == PANEL_DONE)
-            note_pins(&was, &a, asked.call);
+        disturb(&a, &b);
+        if (!both(&a, &b, &asked)) {
+            printf("  at call %u\n", i);
+            return false;
+        }
     }
     return true;
 }
@@ -324,12 +429,12 @@ static bool compare(const struct face *one, const struct face *other)
 /* Says how often each number came; false if one that a call can give never did. */
 static bool all_given(void)
 {
-    static const uint8_t can[KINDS][6] = {{0}, {0, 1, 2, 8}, {0, 1, 2, 8}, {0, 3, 4, 5, 6, 8}, {0, 3, 4, 5, 8}, {0, 7, 8}, {0, 8}, {0, 8, 26}, {0, 8}};
+    static const uint8_t can[KINDS][7] = {{0}, {0, 1, 2, 8}, {0, 1, 2, 8}, {0, 3, 4, 5, 6, 8, 27}, {0, 3, 4, 5, 8, 27}, {0, 7, 8}, {0, 8}, {0, 8, 26}, {0, 8}};
     unsigned call, i;
     bool all = true;
     for (call = 0; call < KINDS; call++) {
         printf("  %s:", names[call]);
-        for (i = 0; i < 6 && (i == 0 || can[call][i] > 0); i++) {
+        for (i = 0; i < 7 && (i == 0 || can[call][i] > 0); i++) {
             printf("%s number %u %u times", i > 0 ? "," : "", can[call][i], given[call][can[call][i]]);
             all = all && given[call][can[call][i]] > 0;
         }
@@ -352,7 +457,15 @@ static bool enough_pins(void)
     return 10 * edged >= sampled && drove > 1000 && by_pin > 100;
 }
 
-/* Both levels of the plain C, and whether every number, enough hidden rows and enough of the pins were met. */
+/* Says how often panels fell asleep and woke; false if that was seldom met. */
+static bool enough_sleep(void)
+{
+    printf("  in %u nights and between them %u single looks and %u blocks put a panel to sleep, %u and %u woke one; %u accesses declined by 27 would have been done, %u not\n",
+           nights, slept[LOOK], slept[BLOCK], woken[LOOK], woken[BLOCK], refused_done, refused_other);
+    return slept[LOOK] > 100 && slept[BLOCK] > 200 && woken[LOOK] > 100 && woken[BLOCK] > 20 && refused_done > 200 && refused_other > 200;
+}
+
+/* Both levels of the plain C, and whether every number, enough hidden rows, enough of the pins and enough sleep were met. */
 int main(void)
 {
     if (!compare(&proved, &plain_O2) || !compare(&proved, &plain_O3) || !compare_lists(&proved, &plain_O2) || !compare_lists(&proved, &plain_O3))
@@ -360,7 +473,7 @@ int main(void)
     if (!compare_groups(&proved, &plain_O2) || !compare_groups(&proved, &plain_O3))
         return 1;
     printf("the same answers: %u random calls of the archive and of the plain C at -O2, and as many at -O3\n", CALLS);
-    if (!all_given() || !enough_hid() || !enough_pins())
+    if (!all_given() || !enough_hid() || !enough_pins() || !enough_sleep())
         return 1;
     printf("the same answers: %u random lists, packed, unpacked and played, at each level\n", LISTS);
     if (!all_lists_given())

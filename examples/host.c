@@ -1,6 +1,6 @@
 /*
  * The host's side of a key panel, for a driver's author to take over: start-up, and an interrupt routine that ends in every case (docs/HOST.md).
- * Plain C99; of panel.h it uses the names of registers, flags and codes alone.
+ * Plain C99; of panel.h it uses the names of registers, flags, codes and numbers alone.
  * It enables no edge of a spare pin: a driver that does reads IRQST first, as docs/HOST.md has it, since such an edge asserts the line with KBDMIS 00.
  */
 #include "panel.h"
@@ -21,11 +21,14 @@ enum host_end {
 /* The most turns of one call: without a look or a reset of the panel in between it needs two. */
 enum { HOST_TURNS = 8 };
 
-/* What the driver supplies. An access says whether it was done; each function is handed `driver`. */
+/*
+ * What the driver supplies; each function is handed `driver`. An access gives PANEL_DONE if it was done, PANEL_ASLEEP if the panel didn't acknowledge its
+ * address, so that nothing was written or taken, and any other number if it failed.
+ */
 struct host {
     void *driver;
-    bool (*read)(void *driver, uint8_t first, uint8_t *bytes, unsigned count);
-    bool (*write)(void *driver, uint8_t first, const uint8_t *bytes, unsigned count);
+    uint8_t (*read)(void *driver, uint8_t first, uint8_t *bytes, unsigned count);
+    uint8_t (*write)(void *driver, uint8_t first, const uint8_t *bytes, unsigned count);
     bool (*asserted)(void *driver);            /* the interrupt line */
     void (*tell)(void *driver, unsigned what); /* a code of EVTCODE, HOST_LOST or HOST_RESET, in order */
     uint8_t bounce, size, mask;                /* the settings that start-up writes */
@@ -35,10 +38,28 @@ struct host {
 bool host_start(const struct host *host);
 enum host_end host_interrupt(const struct host *host);
 
+/* A read. A panel that sleeps declines it once and wakes, so it is made once more. Done? */
+static bool read_bytes(const struct host *host, uint8_t first, uint8_t *bytes, unsigned count)
+{
+    uint8_t number = host->read(host->driver, first, bytes, count);
+    if (number == PANEL_ASLEEP)
+        number = host->read(host->driver, first, bytes, count);
+    return number == PANEL_DONE;
+}
+
+/* A write, in the same way. Done? */
+static bool write_bytes(const struct host *host, uint8_t first, const uint8_t *bytes, unsigned count)
+{
+    uint8_t number = host->write(host->driver, first, bytes, count);
+    if (number == PANEL_ASLEEP)
+        number = host->write(host->driver, first, bytes, count);
+    return number == PANEL_DONE;
+}
+
 /* One byte to a register. Done? */
 static bool write_byte(const struct host *host, uint8_t address, uint8_t byte)
 {
-    return host->write(host->driver, address, &byte, 1);
+    return write_bytes(host, address, &byte, 1);
 }
 
 /* Start-up; all keys are up after it. RSTINTCLR comes first: a panel that is reset from then on asserts the line again. Done? */
@@ -48,7 +69,7 @@ bool host_start(const struct host *host)
     settings[0] = host->bounce;
     settings[1] = host->size;
     return write_byte(host, PANEL_RSTINTCLR, 0x01)
-        && host->write(host->driver, PANEL_KBDBOUNCE, settings, 2)
+        && write_bytes(host, PANEL_KBDBOUNCE, settings, 2)
         && write_byte(host, PANEL_KBDMSK, host->mask);
 }
 
@@ -68,7 +89,7 @@ static bool fetch(const struct host *host)
 {
     uint8_t codes[PANEL_PLACES + 1];
     unsigned i;
-    if (!host->read(host->driver, PANEL_EVTCODE, codes, sizeof codes))
+    if (!read_bytes(host, PANEL_EVTCODE, codes, sizeof codes))
         return false;
     for (i = 0; i < sizeof codes && codes[i] != PANEL_NO_CODE; i++)
         host->tell(host->driver, codes[i]);
@@ -79,7 +100,7 @@ static bool fetch(const struct host *host)
 static bool turn(const struct host *host)
 {
     uint8_t flags[2]; /* KBDRIS, KBDMIS */
-    if (!host->read(host->driver, PANEL_KBDRIS, flags, 2))
+    if (!read_bytes(host, PANEL_KBDRIS, flags, 2))
         return false;
     if (flags[1] == 0) {
         if (!host_start(host))

@@ -14,6 +14,12 @@
  *     number = panel_pins(&panel, sample);
  *     number = panel_drive(&panel, &driven, &level);
  *
+ * A panel sleeps after 255 quiet looks in a row with no done access between them. It then declines the next access, once, and wakes; so repeat it once:
+ *
+ *     number = panel_read(&panel, PANEL_EVTCODE, codes, sizeof codes);
+ *     if (number == PANEL_ASLEEP)
+ *         number = panel_read(&panel, PANEL_EVTCODE, codes, sizeof codes);
+ *
  * A session can be carried to another place: its calls are packed, one by one or all at once, and a panel that plays the list ends as this one,
  * but for what pin samples did, since they aren't carried:
  *
@@ -26,7 +32,8 @@
  *     handed = panel_groups(trim, codes, count, ends, room);
  *
  * Each call gives a number. PANEL_DONE: the call was done. Any other: it was declined, neither the module nor a byte of the buffer is altered,
- * and a question's answer is no. There is one exception: a block of looks that stops at a look keeps the looks before it.
+ * and a question's answer is no. There are two exceptions: a block of looks that stops at a look keeps the looks before it; and PANEL_ASLEEP wakes the panel,
+ * so `asleep` and `quiet` are altered, and nothing else.
  * A number is given exactly when its condition holds and none before it in the call's list does.
  *
  * Link with libpanel.a, which `rt staticlib panel` writes for x86-64; panel_play is in libplayer.a, by `rt staticlib player`, so that a panel that
@@ -54,8 +61,8 @@
  * This header's version, 10000 x first + 100 x second + third. The first rises when a caller must be changed or compiled again: another layout,
  * another meaning of a call. The second rises when something is added, the third when only words change. Header and archive are of one version.
  */
-#define PANEL_VERSION 40000
-#define PANEL_VERSION_TEXT "4.0.0"
+#define PANEL_VERSION 50000
+#define PANEL_VERSION_TEXT "5.0.0"
 
 /* On a call that gives a number: the compiler warns if nobody looks at it. */
 #if defined(__GNUC__)
@@ -85,7 +92,8 @@ enum panel_number {
     PANEL_BAD_CODE = 23,     /* undo groups: the trim key's code is no press of a key, or some code of the list no press or release of one */
     PANEL_BAD_CHANGE = 24,   /* undo groups: a press of a key that is down, or a release of one that is up; no key is down at the list's start */
     PANEL_INSIDE_GROUP = 25, /* undo groups: the place is before the end, and inside a group or past the start of an open one */
-    PANEL_BAD_PINS = 26      /* pin sample: a bit above 18 is set */
+    PANEL_BAD_PINS = 26,     /* pin sample: a bit above 18 is set */
+    PANEL_ASLEEP = 27        /* access: asleep; the access wakes the panel, so repeat it once */
 };
 
 /* The registers, by the data sheet's names. Every other address is unknown. */
@@ -194,7 +202,7 @@ struct panel_pins {
 };
 
 /*
- * The module: 307 bytes, alignment 1, no padding. Key k is 13 x row + column.
+ * The module: 309 bytes, alignment 1, no padding. Key k is 13 x row + column.
  * It is sound when each field is as said here; a call declines any other with PANEL_UNSOUND, one of zeros too: begin with panel_reset.
  */
 struct panel {
@@ -210,6 +218,8 @@ struct panel {
     bool relint;
     bool porirq;       /* reset happened; the interrupt line is asserted until RSTINTCLR clears it */
     bool seen[4];      /* which picture registers were read: never all four */
+    uint8_t quiet;     /* quiet looks in a row: at most 255, and then it stays */
+    bool asleep;       /* the next access is declined with PANEL_ASLEEP: exactly while `quiet` is 255 */
     struct panel_pins pins;
 };
 
@@ -271,6 +281,11 @@ struct panel_handed {
  * One look: a sample for each row, bit c set when column c is closed, bit 12 for the special function key.
  * A set bit 12 in a row of the size hides the rest of the row: the keys of columns 0 to 11 have no sample in this look, so they neither change nor forget.
  * A key's last D samples are the last D that it had. The contact decides, not the key: the first look with bit 12 set hides already, the first without it shows.
+ *
+ * A key is settling while its newest sample isn't how it is held after the look. A hidden key's newest sample is the last that it had.
+ * A look is quiet if no key changes, not even one whose code is dropped, and no key of the size is settling. It adds 1 to `quiet`, up to 255, and with 255
+ * the panel sleeps. Any other done look makes it 0 and wakes the panel; so do reset, and an access that PANEL_ASLEEP declines. A done access makes it 0.
+ * Nothing else does: no declined look, no access that another number declines, no question, no pin sample. Asleep every call but an access is done as awake.
  * Numbers: PANEL_UNSOUND, PANEL_NOT_EIGHT, PANEL_HIGH_BITS (also for a hidden row), else PANEL_DONE.
  */
 PANEL_NUMBER uint8_t panel_look(struct panel *panel, const uint16_t *samples, uint64_t count);
@@ -285,13 +300,15 @@ PANEL_NUMBER uint8_t panel_looks(struct panel *panel, const uint16_t *samples, u
 
 /*
  * A write access: bytes to the registers from `first` on, each taking effect in order.
- * Numbers: PANEL_UNSOUND, PANEL_NO_BYTES, PANEL_TOO_MANY, PANEL_NOT_ALLOWED, PANEL_BAD_SIZE, else PANEL_DONE.
+ * Asleep it is declined whatever its length, address and bytes: a write of KBDSIZE restarts nothing. The panel is awake after it, and `quiet` is 0.
+ * Numbers: PANEL_UNSOUND, PANEL_ASLEEP, PANEL_NO_BYTES, PANEL_TOO_MANY, PANEL_NOT_ALLOWED, PANEL_BAD_SIZE, else PANEL_DONE.
  */
 PANEL_NUMBER uint8_t panel_write(struct panel *panel, uint8_t first, const uint8_t *bytes, uint64_t count);
 
 /*
  * A read access: the whole buffer is filled from the registers from `first` on.
- * Numbers: PANEL_UNSOUND, PANEL_NO_BYTES, PANEL_TOO_MANY, PANEL_NOT_ALLOWED, else PANEL_DONE.
+ * Asleep it is declined as a write is, and no code is taken.
+ * Numbers: PANEL_UNSOUND, PANEL_ASLEEP, PANEL_NO_BYTES, PANEL_TOO_MANY, PANEL_NOT_ALLOWED, else PANEL_DONE.
  */
 PANEL_NUMBER uint8_t panel_read(struct panel *panel, uint8_t first, uint8_t *buffer, uint64_t count);
 
@@ -368,7 +385,7 @@ struct panel_handed *panel_groups_value(struct panel_handed *made, uint8_t trim,
 /* Refused, by a name that tells what is wrong, if the compiler lays the structs out otherwise than the archive. */
 #define PANEL_SEEN(name, fact) typedef char name[(fact) ? 1 : -1]
 #define PANEL_AT(field, place) PANEL_SEEN(panel_##field##_is_at_##place, offsetof(struct panel, field) == (place))
-PANEL_SEEN(panel_is_307_bytes, sizeof(struct panel) == 307);
+PANEL_SEEN(panel_is_309_bytes, sizeof(struct panel) == 309);
 PANEL_AT(held, 0);
 PANEL_AT(run, 104);
 PANEL_AT(queue, 208);
@@ -381,10 +398,12 @@ PANEL_AT(rklint, 228);
 PANEL_AT(relint, 229);
 PANEL_AT(porirq, 230);
 PANEL_AT(seen, 231);
-PANEL_AT(pins, 235);
+PANEL_AT(quiet, 235);
+PANEL_AT(asleep, 236);
+PANEL_AT(pins, 237);
 PANEL_SEEN(panel_done_after_is_at_0, offsetof(struct panel_done, after) == 0);
-PANEL_SEEN(panel_done_number_is_at_307, offsetof(struct panel_done, number) == 307);
-PANEL_SEEN(panel_done_is_308_bytes, sizeof(struct panel_done) == 308);
+PANEL_SEEN(panel_done_number_is_at_309, offsetof(struct panel_done, number) == 309);
+PANEL_SEEN(panel_done_is_310_bytes, sizeof(struct panel_done) == 310);
 PANEL_SEEN(panel_row_and_col_are_a_byte_each, sizeof(struct panel_row) == 1 && sizeof(struct panel_col) == 1);
 #define PANEL_IN(type, field, place) PANEL_SEEN(panel_##type##_##field##_is_at_##place, offsetof(struct panel_##type, field) == (place))
 PANEL_SEEN(panel_pins_is_72_bytes, sizeof(struct panel_pins) == 72);
@@ -448,7 +467,8 @@ static inline uint8_t panel_reset(struct panel *panel)
 /*
  * Packs a list of calls into the buffer: the list at the front, `length` bytes of it, and the rest as it was. Declined: the length is 0.
  * Numbers: that of the first call in the list that one of PANEL_NOT_EIGHT, PANEL_HIGH_BITS, PANEL_NO_BYTES, PANEL_TOO_MANY declines; then PANEL_NO_ROOM,
- * else PANEL_DONE. No other number of a call is looked for: a list may hold calls that a module declines.
+ * else PANEL_DONE. No other number of a call is looked for: a list may hold calls that a module declines, and must hold an access that PANEL_ASLEEP declined,
+ * since it woke the panel. One of 0 or more than 32 bytes has no record: in its place a recorder packs a read of one byte at that address, which wakes it too.
  */
 PANEL_NUMBER static inline uint8_t panel_pack(const struct panel_call *calls, uint64_t count, uint8_t *out, uint64_t room, uint64_t *length)
 {
@@ -550,13 +570,14 @@ PANEL_NUMBER static inline struct panel_handed panel_groups(uint8_t trim, const 
     return made;
 }
 
-/* Are the 151 bool bytes of a restored module 0 or 1? They are read as bytes; what else makes it unsound, a call tells. */
+/* Are the 152 bool bytes of a restored module 0 or 1? They are read as bytes; what else makes it unsound, a call tells. */
 static inline bool panel_bools_ok(const struct panel *panel)
 {
     const unsigned char *bytes = (const unsigned char *)panel;
     unsigned i, all = 0, kept = offsetof(struct panel, pins) + offsetof(struct panel_pins, kept);
     for (i = 0; i < sizeof *panel; i++) {
-        if (i < offsetof(struct panel, run) || (i >= offsetof(struct panel, rsint) && i < kept) || i >= kept + sizeof panel->pins.kept)
+        bool flag = i >= offsetof(struct panel, rsint) && i < kept && i != offsetof(struct panel, quiet);
+        if (i < offsetof(struct panel, run) || flag || i >= kept + sizeof panel->pins.kept)
             all |= bytes[i];
     }
     return all <= 1;

@@ -48,7 +48,7 @@ fn main() {
                 format!("{ident}_console::Console::new()")
             }
         };
-        entries += &format!("    ({name:?}, |script| Box::new({console}.answers(script))),\n");
+        entries += &format!("    planted!({name:?}, {console}),\n");
     }
     let list = format!("const PLANTED: &[Planted] = &[\n{entries}];\n");
     write(Path::new(&var("OUT_DIR").unwrap()).join("planted.rs"), modules + &list).unwrap();

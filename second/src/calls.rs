@@ -4,6 +4,9 @@
 /// How many pins can be plain inputs and outputs.
 pub const PINS: usize = 19;
 
+/// The number of an access that meets the module asleep (document 02, E7).
+pub const ASLEEP: u8 = 27;
+
 /// The level of each pin that is driven.
 pub type Driven = [Option<bool>; PINS];
 
@@ -35,6 +38,9 @@ pub trait Calls {
 
     /// The question which pins are driven.
     fn drive(&self) -> (u8, Driven);
+
+    /// The byte of a register that reading leaves as it is, seen without an access.
+    fn register(&self, address: u8) -> u8;
 }
 
 /// A call with what it is given. Questions, blocks and pin samples are not among

@@ -3,7 +3,7 @@
 //! A list is bits, most significant first. A record is a kind of two bits and what belongs to it.
 //! Fewer than eight bits, all 0, where a record could begin are the end.
 
-use crate::calls::Call;
+use crate::calls::{Call, ASLEEP};
 
 /// The reader's number: the list is cut short or padded wrongly.
 pub const NO_LIST: u8 = 20;
@@ -54,6 +54,18 @@ pub fn judge(call: &Call) -> u8 {
         Call::Look(_) => 0,
         Call::Write(_, bytes) => judge_length(bytes.len()),
         Call::Read(_, count) => judge_length(*count),
+    }
+}
+
+/// What a recording has of a call that gave a number, if anything. A call that doesn't fit in a list
+/// altered nothing, unless it is an access that woke the module: a read of one byte wakes it as well.
+pub fn carried(call: Call, number: u8) -> Option<Call> {
+    match call {
+        _ if judge(&call) == 0 => Some(call),
+        Call::Write(first, _) | Call::Read(first, _) if number == ASLEEP => {
+            Some(Call::Read(first, 1))
+        }
+        _ => None,
     }
 }
 

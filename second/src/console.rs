@@ -6,7 +6,7 @@
 //! recorded.
 
 use crate::calls::{Call, Calls, Driven};
-use crate::carry::{judge, pack, unpack, NO_LIST};
+use crate::carry::{carried, pack, unpack, NO_LIST};
 use crate::fetched::Fetched;
 use crate::grouped::{answer_fetch, answer_group, answer_groups, drawing, undo};
 use crate::module::Module;
@@ -31,7 +31,7 @@ pub struct Console {
     /// A sample for each row, with a bit set for each closed contact.
     contacts: [u16; 8],
     fetched: Fetched,
-    /// The calls made that fit in a list, if the session is recorded.
+    /// What a list can hold of the calls made, if the session is recorded.
     record: Option<Vec<Call>>,
     line: Vec<u8>,
     /// Whether `quit` has ended the input.
@@ -204,7 +204,7 @@ impl Console {
             }
         }
         self.fetched.heed(&call, number, &bytes);
-        self.keep(call);
+        self.keep(call, number);
         (number, bytes)
     }
 
@@ -213,10 +213,10 @@ impl Console {
         self.contacts.iter_mut().zip(samples).for_each(|(row, sample)| *row = *sample);
     }
 
-    /// Keeps a call if the session is recorded and a list can hold it.
-    fn keep(&mut self, call: Call) {
-        if let Some(record) = self.record.as_mut().filter(|_| judge(&call) == 0) {
-            record.push(call);
+    /// Keeps what a list can hold of a call that gave a number, if the session is recorded.
+    fn keep(&mut self, call: Call, number: u8) {
+        if let Some(record) = &mut self.record {
+            record.extend(carried(call, number));
         }
     }
 
@@ -226,7 +226,7 @@ impl Console {
         let (number, done) = self.module.looks(&list);
         for samples in list.chunks(8).take(done) {
             self.set(samples);
-            self.keep(Call::Look(samples.to_vec()));
+            self.keep(Call::Look(samples.to_vec()), 0);
         }
         Ok(format!("{number} {done}"))
     }
@@ -251,11 +251,11 @@ impl Console {
         Ok(self.looks(count))
     }
 
-    /// Makes the looks after which the module believes a contact: KBDBOUNCE, and 0 counts as 1.
+    /// Makes the looks after which the module believes a contact: KBDBOUNCE, and 0 counts as 1. A
+    /// finger makes no access.
     fn settle(&mut self) -> String {
-        let mut bounce = [0];
-        self.module.read(0x02, &mut bounce);
-        self.looks(bounce[0].max(1).into())
+        let bounce = self.module.register(0x02);
+        self.looks(bounce.max(1).into())
     }
 
     /// Looks that many times at the contacts as they are, up to the first look that is declined.

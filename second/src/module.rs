@@ -5,9 +5,10 @@
 //! in that look. Held keys, waiting codes and read picture registers are ordinary collections. There
 //! is no unsound state, so number 8 is never given. A block (document 02, E2) is its single looks.
 //! The spare pins (document 02, E6) stand apart: here are their calls, and what they share with the
-//! keypad, its size and the interrupt line.
+//! keypad, its size and the interrupt line. After 255 quiet looks in a row it sleeps (document 02,
+//! E7), and the next access only wakes it.
 
-use crate::calls::{Calls, Driven, PINS};
+use crate::calls::{Calls, Driven, ASLEEP, PINS};
 use crate::pins::Pins;
 use std::collections::{BTreeSet, VecDeque};
 use std::iter::successors;
@@ -24,10 +25,14 @@ const ROOM: usize = 15;
 /// How many of a key's newest samples are kept. D is at most 255, so older ones are never asked.
 const REMEMBERED: usize = 255;
 
+/// After how many quiet looks in a row the module sleeps.
+const QUIET: usize = 255;
+
 /// A key, by its press code.
 type Key = u8;
 
 /// The module between two calls.
+#[derive(Clone)]
 pub struct Module {
     bounce: u8,
     size: u8,
@@ -44,6 +49,8 @@ pub struct Module {
     relint: bool,
     porirq: bool,
     pins: Pins,
+    /// How many quiet looks came in a row, with no access between them that was done.
+    quiet: usize,
 }
 
 /// All keys by row, then by column.
@@ -105,7 +112,13 @@ impl Module {
             relint: false,
             porirq: true,
             pins: Pins::new(),
+            quiet: 0,
         }
+    }
+
+    /// How many quiet looks came in a row.
+    pub fn quiet(&self) -> usize {
+        self.quiet
     }
 }
 
@@ -141,7 +154,7 @@ impl Calls for Module {
     }
 
     fn write(&mut self, first: u8, bytes: &[u8]) -> u8 {
-        let number = judge_write(first, bytes);
+        let number = self.awake(judge_write(first, bytes));
         if number == 0 {
             for (address, byte) in run(first).zip(bytes) {
                 self.put(address, *byte);
@@ -151,7 +164,7 @@ impl Calls for Module {
     }
 
     fn read(&mut self, first: u8, buffer: &mut [u8]) -> u8 {
-        let number = judge(first, buffer.len(), readable);
+        let number = self.awake(judge(first, buffer.len(), readable));
         if number == 0 {
             for (address, place) in run(first).zip(buffer) {
                 *place = self.get(address);
@@ -181,6 +194,10 @@ impl Calls for Module {
 
     fn drive(&self) -> (u8, Driven) {
         (0, self.pins.drive(self.size))
+    }
+
+    fn register(&self, address: u8) -> u8 {
+        self.kept(address.into())
     }
 }
 
@@ -267,7 +284,7 @@ impl Module {
         seen.iter().copied().filter(changes).collect()
     }
 
-    /// Takes the changes of one look and sets the flags.
+    /// Takes the changes of one look, sets the flags, and counts the look if it is quiet.
     fn take(&mut self, changes: &[Key]) {
         for key in changes {
             self.change(*key);
@@ -277,6 +294,8 @@ impl Module {
             self.rsint = true;
             self.pictured.clear();
         }
+        let quiet = changes.is_empty() && !keys().any(|key| self.settles(key));
+        self.quiet = if quiet { self.quiet + 1 } else { 0 };
     }
 
     /// Changes one key and puts its code in the queue.
@@ -296,6 +315,27 @@ impl Module {
         } else {
             self.relint = true;
         }
+    }
+}
+
+// Sleep.
+impl Module {
+    /// Whether a key in the size settles behind a look: its newest sample is not as it is held. A
+    /// hidden key goes by the newest one it has.
+    fn settles(&self, key: Key) -> bool {
+        let newest = self.samples[usize::from(key)].back();
+        let differs = |closed: &bool| *closed != self.held.contains(&key);
+        self.in_size(key) && newest.map_or(false, differs)
+    }
+
+    /// The number of an access that would be given this one awake: asleep it is 27. That wakes, and
+    /// like an access that is done it ends the row of quiet looks.
+    fn awake(&mut self, number: u8) -> u8 {
+        let number = if self.quiet < QUIET { number } else { ASLEEP };
+        if number == 0 || number == ASLEEP {
+            self.quiet = 0;
+        }
+        number
     }
 }
 
@@ -341,13 +381,20 @@ impl Module {
     /// The byte that a register gives, and what reading it does.
     fn get(&mut self, address: usize) -> u8 {
         match address {
+            0x0B..=0x0E => self.get_picture(address - 0x0B),
+            EVTCODE => self.waiting.pop_front().unwrap_or(NO_KEY),
+            _ => self.kept(address),
+        }
+    }
+
+    /// The byte of a register that reading leaves as it is.
+    fn kept(&self, address: usize) -> u8 {
+        match address {
             0x02 => self.bounce,
             0x03 => self.size,
             0x06 => self.ris(),
             0x07 => self.mis(),
             0x09 => self.mask,
-            0x0B..=0x0E => self.get_picture(address - 0x0B),
-            EVTCODE => self.waiting.pop_front().unwrap_or(NO_KEY),
             IRQST => self.irqst(),
             // The access was judged before: the registers of the pins are left.
             _ => self.pins.get(address, self.size),

@@ -4,7 +4,8 @@
 //! panel, a storm of changes, picture reading, patience under a long bounce, settings that churn,
 //! registers at random, calls that are declined, lists that are carried, blocks of looks, direct keys
 //! that hide their rows, lists of codes that are cut into undo groups, editing with a trim key, lamps
-//! and switches on spare pins. The contacts and the pins go on from one stretch to the next.
+//! and switches on spare pins, nights in which the panel sleeps. All have their turn, in any order,
+//! before they come again. The contacts and the pins go on from one stretch to the next.
 
 mod blocks;
 mod carry;
@@ -12,6 +13,7 @@ mod direct;
 mod fingers;
 mod lists;
 mod pins;
+mod sleep;
 mod undo;
 
 use crate::calls::Call;
@@ -54,7 +56,7 @@ const BAD_SIZES: [u8; 10] = [0x1C, 0x2D, 0x92, 0x81, 0x21, 0x12, 0x00, 0xFF, 0x9
 type Regime = (fn(&mut Maker), fn(&mut Maker));
 
 /// The regimes; those that are there twice are taken twice as often.
-const REGIMES: [Regime; 24] = [
+const REGIMES: [Regime; 26] = [
     (Maker::begin_typing, Maker::type_keys),
     (Maker::begin_typing, Maker::type_keys),
     (Maker::begin_fingers, Maker::move_fingers),
@@ -79,6 +81,8 @@ const REGIMES: [Regime; 24] = [
     (Maker::begin_pins, Maker::use_pins),
     (Maker::begin_pins, Maker::use_pins),
     (Maker::begin_pins, Maker::use_pins),
+    (Maker::begin_typing, Maker::pass_night),
+    (Maker::begin_direct, Maker::pass_night),
 ];
 
 /// Ways to quit.
@@ -108,6 +112,8 @@ struct Maker {
     chance: Chance,
     malformed: Malformed,
     lines: Vec<Line>,
+    /// The places of the regimes that have their turn before all come again.
+    turns: Vec<usize>,
     /// The size that is in force, as far as the script knows.
     size: u8,
     /// The contacts that are closed, and those that still bounce.
@@ -129,6 +135,7 @@ impl Maker {
             chance,
             malformed,
             lines: Vec::new(),
+            turns: Vec::new(),
             size: 0x22,
             closed: [0; 8],
             bouncing: [0; 8],
@@ -137,9 +144,18 @@ impl Maker {
         }
     }
 
+    /// A regime whose turn it is.
+    fn regime(&mut self) -> Regime {
+        if self.turns.is_empty() {
+            self.turns = (0..REGIMES.len()).collect();
+        }
+        let place = self.chance.below(self.turns.len());
+        REGIMES[self.turns.swap_remove(place)]
+    }
+
     /// One stretch of lines in one regime, with a few lines aside.
     fn stretch(&mut self) {
-        let (begin, step) = self.chance.pick(&REGIMES);
+        let (begin, step) = self.regime();
         let end = self.lines.len() + self.chance.between(50, 400);
         self.hush_pins();
         begin(self);
@@ -161,14 +177,15 @@ impl Maker {
 
     /// Now and then a line that has nothing to do with the regime.
     fn aside(&mut self) {
-        if self.chance.one_in(10) {
+        if self.chance.one_in(9) {
             let line = self.malformed.line(&mut self.chance);
             self.lines.push(line);
         }
         match self.chance.below(40) {
             0 => self.undo(),
-            1..=2 => self.ask_groups(),
-            3 => self.use_pins(),
+            1..=3 => self.ask_groups(),
+            4..=5 => self.use_pins(),
+            6 if self.chance.one_in(4) => self.pass_night(),
             _ => {}
         }
         if self.chance.one_in(250) {
@@ -539,9 +556,7 @@ impl Maker {
             0..=1 => self.fetch(),
             2 => {
                 self.drain();
-                if self.chance.one_in(3) {
-                    self.undo();
-                }
+                self.undo();
             }
             3 => self.serve(),
             4 => self.clear(),

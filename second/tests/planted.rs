@@ -2,8 +2,8 @@
 //!
 //! A planted error is a plausible mistake: an edit of the module, of the console or of what the
 //! console is made of, tests/planted/NAME.edit. The console with the edit in it is compared as
-//! another console is. Each error can be seen through the console's language; mistakes that no bus
-//! can see are not among them.
+//! another console is. Each error can be seen through the console's language, or in the recording of
+//! a session; mistakes that no bus can see are not among them.
 
 // The edited copies find here what they name.
 use second::{calls, carry, fetched, grouped, module, pins, typed, undo, words};
@@ -15,8 +15,33 @@ use second::script::{script, Line};
 /// The answers that a console gives to a script, with their places.
 type Answers<'a> = Box<dyn Iterator<Item = (usize, String)> + 'a>;
 
-/// The name of an error, and what the console with this error answers to a script.
-type Planted = (&'static str, for<'a> fn(&'a [Line]) -> Answers<'a>);
+/// The lists that a console records of a script, one for every so many lines.
+type Lists<'a> = Box<dyn Iterator<Item = Vec<u8>> + 'a>;
+
+/// How many lines are recorded in a list.
+const RECORDED: usize = 100;
+
+/// The name of an error, and what the console with this error answers to a script, and records of it.
+type Planted =
+    (&'static str, for<'a> fn(&'a [Line]) -> Answers<'a>, for<'a> fn(&'a [Line]) -> Lists<'a>);
+
+/// An error by its name and the console with it.
+macro_rules! planted {
+    ($name:expr, $console:expr) => {
+        (
+            $name,
+            |script| Box::new($console.answers(script)),
+            |script| {
+                let mut console = $console;
+                Box::new(script.chunks(RECORDED).map(move |lines| {
+                    console.record();
+                    lines.iter().for_each(|line| drop(console.answer(line)));
+                    console.recorded()
+                }))
+            },
+        )
+    };
+}
 
 include!(concat!(env!("OUT_DIR"), "/planted.rs"));
 
@@ -32,8 +57,17 @@ fn longest(name: &str) -> usize {
     }
 }
 
-/// The first line that a console with a planted error answers differently.
+/// The console without an error.
+const PLAIN: Planted = planted!("none", Console::new());
+
+/// The first line that a console with a planted error answers differently. Of an error of the
+/// recorder, the last line of the first list that is another.
 fn differs(lines: &[Line], planted: &Planted) -> Option<usize> {
+    if planted.0.starts_with("record-") {
+        let mut lists = planted.2(lines).zip(PLAIN.2(lines));
+        let place = lists.position(|(theirs, ours)| theirs != ours)?;
+        return Some(lines.len().min(RECORDED * (place + 1)) - 1);
+    }
     let answers = planted.1(lines).map(|(_, answer)| answer.into_bytes());
     difference(lines, answers).map(|found| found.line)
 }
@@ -62,8 +96,9 @@ fn every_planted_error_is_found_by_other_seeds() {
 
 #[test]
 fn without_an_error_there_is_no_difference() {
-    let plain: Planted = ("none", |script| Box::new(Console::new().answers(script)));
-    assert_eq!(differs(&script(SEED, LINES), &plain), None);
+    let whole = script(SEED, LINES);
+    assert_eq!(differs(&whole, &PLAIN), None);
+    assert_eq!(differs(&whole, &("record-none", PLAIN.1, PLAIN.2)), None);
 }
 
 #[test]

@@ -6,6 +6,7 @@ use second::console::{Console, LONGEST};
 use second::malformed::{BYTES, ODD, WRONG};
 use second::script::{script, Line};
 use std::collections::{HashMap, HashSet};
+use watched::sleep::{self, Calm};
 use watched::{counts, pins, Kind};
 
 /// The answers to a script.
@@ -40,8 +41,8 @@ fn a_longer_script_begins_with_a_shorter_one() {
 #[test]
 fn every_number_is_given_but_eight_and_nine() {
     let answers = answers(&script(1, 20_000));
-    for number in ["0", "1", "2", "3", "4", "5", "6", "20", "21", "22", "23", "24", "25", "26"] {
-        assert!(answers.iter().any(|answer| answer == number), "{number}");
+    for number in (0..=6).chain(20..=27).map(|number| number.to_string()) {
+        assert!(answers.contains(&number), "{number}");
     }
     for number in ["7 no", "0 yes", "0 no", "0 reset", "0 look ", "0 write ", "0 read ", "? "] {
         assert!(answers.iter().any(|answer| answer.starts_with(number)), "{number}");
@@ -302,6 +303,66 @@ fn pins_have_their_share_of_every_script() {
         assert!((400..2500).contains(&count(&lines, "drive")), "seed {seed}");
         assert!((2500..6000).contains(&count(&lines, "pins")), "seed {seed}");
     }
+}
+
+/// How often what is worth watching happens to the panel's sleep, at least.
+const SLEEP: [(sleep::Kind, usize); 37] = [
+    (sleep::Kind::Falls, 150),
+    (sleep::Kind::FallsInBlock, 10),
+    (sleep::Kind::FallsWaiting, 100),
+    (sleep::Kind::FallsHeld, 100),
+    (sleep::Kind::FallsHiding, 60),
+    (sleep::Kind::FallsOutside, 80),
+    (sleep::Kind::FallsBehind(Calm::Declined(3)), 5),
+    (sleep::Kind::FallsBehind(Calm::Declined(4)), 5),
+    (sleep::Kind::FallsBehind(Calm::Declined(5)), 5),
+    (sleep::Kind::FallsBehind(Calm::Declined(6)), 5),
+    (sleep::Kind::FallsBehind(Calm::Look), 5),
+    (sleep::Kind::FallsBehind(Calm::Block), 1),
+    (sleep::Kind::FallsBehind(Calm::Pins(true)), 5),
+    (sleep::Kind::FallsBehind(Calm::Pins(false)), 2),
+    (sleep::Kind::FallsBehind(Calm::Question), 10),
+    (sleep::Kind::Asleep(Calm::Look), 10),
+    (sleep::Kind::Asleep(Calm::Block), 5),
+    (sleep::Kind::Asleep(Calm::Pins(true)), 20),
+    (sleep::Kind::Asleep(Calm::Pins(false)), 2),
+    (sleep::Kind::Asleep(Calm::Question), 20),
+    (sleep::Kind::Refused(true), 60),
+    (sleep::Kind::Refused(false), 30),
+    (sleep::Kind::RefusedFor(0), 60),
+    (sleep::Kind::RefusedFor(3), 5),
+    (sleep::Kind::RefusedFor(4), 5),
+    (sleep::Kind::RefusedFor(5), 5),
+    (sleep::Kind::RefusedFor(6), 5),
+    (sleep::Kind::RefusedSize, 5),
+    (sleep::Kind::RefusedCode, 10),
+    (sleep::Kind::Change, 15),
+    (sleep::Kind::Dropped, 2),
+    (sleep::Kind::Settling, 15),
+    (sleep::Kind::BusyInBlock, 2),
+    (sleep::Kind::Reset, 5),
+    (sleep::Kind::ResetBreaks, 5),
+    (sleep::Kind::LastDone, 10),
+    (sleep::Kind::HiddenAwake, 20),
+];
+
+#[test]
+fn nights_of_every_kind_occur() {
+    for seed in 1..5 {
+        let counts = sleep::counts(&script(seed, 60_000));
+        for (kind, least) in &SLEEP {
+            let times = counts.get(kind).copied().unwrap_or(0);
+            assert!(times >= *least, "{kind:?} {times} times with seed {seed}");
+        }
+        assert!(counts[&sleep::Kind::SleepsOn] >= 1000, "seed {seed}");
+    }
+}
+
+#[test]
+fn most_short_scripts_fall_asleep() {
+    let falls = |seed: &u64| sleep::counts(&script(*seed, 2000)).contains_key(&sleep::Kind::Falls);
+    let asleep = (1..33).filter(falls).count();
+    assert!(asleep >= 24, "{asleep} of 32");
 }
 
 /// The lines of a script about undo groups, with their answers.

@@ -110,6 +110,8 @@ static void random_ones(void)
     for (i = 0; i < 3000; i++) {
         if (once_in(3))
             panel = some_panel();
+        if (once_in(6))
+            some_rest(&panel);
         looks = below(41);
         some_samples(PANEL_ROWS * looks);
         for (bad = once_in(2) ? below(3) : 0; bad > 0 && looks > 0; bad--) {

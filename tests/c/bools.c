@@ -1,10 +1,10 @@
 /* A module restored from storage: a bool byte that isn't 0 or 1 is told by panel_bools_ok, wherever it stands; every other byte may be anything. */
 #include "check.h"
 
-/* Is the byte of a module a bool? Written out here: held, then RSINT, RKLINT, RELINT, PORIRQ and four marks, then the pins' edges, levels and `sampled`. */
+/* Is the byte of a module a bool? Written out here: held, then RSINT, RKLINT, RELINT, PORIRQ and four marks, `asleep`, then the pins' edges, levels and `sampled`. */
 static bool is_bool(unsigned at)
 {
-    return at < 104 || (at >= 227 && at < 235) || (at >= 268 && at < 307);
+    return at < 104 || (at >= 227 && at < 235) || at == 236 || (at >= 270 && at < 309);
 }
 
 /* Is an image told as good, with one byte set to a value? */
@@ -24,7 +24,7 @@ static void every_byte(const struct panel *image)
         for (value = 0; value < 256; value++)
             SO(passes(image, at, value) == (value < 2 || !is_bool(at)));
     }
-    SAME(bools, 151);
+    SAME(bools, 152);
 }
 
 void bools(void)

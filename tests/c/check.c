@@ -91,6 +91,7 @@ int main(void)
     undo();
     picture();
     pins();
+    sleeping();
     printf("checks: %u made, %u failed\n", checked, failed);
     return failed ? 1 : 0;
 }

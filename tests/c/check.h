@@ -56,5 +56,6 @@ void carry(void);
 void undo(void);
 void picture(void);
 void pins(void);
+void sleeping(void);
 
 #endif

@@ -19,6 +19,18 @@ static struct panel busy(void)
     return panel;
 }
 
+/* A module with 200 quiet looks in a row, which no declined call breaks; a key is held. */
+static struct panel rested(void)
+{
+    struct panel panel = after_reset();
+    unsigned looks;
+    SAME(WRITE(&panel, PANEL_KBDBOUNCE, 1, 0x8C), 0);
+    for (looks = 0; looks <= 200; looks++)
+        SAME(LOOK(&panel, 0, 0x0020, 0, 0, 0, 0, 0, 0), 0);
+    SAME(panel.quiet, 200);
+    return panel;
+}
+
 static void look_declined(const struct panel *was, const uint16_t *samples, size_t count, unsigned number)
 {
     struct panel panel = *was;
@@ -163,7 +175,8 @@ static void all(const char *name, const struct panel *was)
 void declined(void)
 {
     struct panel fresh = after_reset();
-    struct panel panel = busy();
+    struct panel panel = busy(), quiet = rested();
     all("after reset", &fresh);
     all("with keys, codes, flags, marks and pins", &panel);
+    all("with 200 quiet looks in a row", &quiet);
 }

@@ -81,7 +81,7 @@ static void jog_key(void)
     group_ends();
 }
 
-/* The twelve keys of a row, together and one by one, under a closed contact: no code, no flag, no run, no line. */
+/* The twelve keys of a row, together and one by one, under a closed contact: no code, no flag, no run, no line; every look is a quiet one. */
 static void strike_twelve(unsigned row, unsigned bounce)
 {
     struct panel panel = desk(0x8C, bounce), was;
@@ -91,9 +91,11 @@ static void strike_twelve(unsigned row, unsigned bounce)
     quiet(&panel);
     was = panel;
     row_reads(&panel, row, DIRECT | MATRIX, bounce + 2);
+    was.quiet = (uint8_t)(bounce + 2);
     SO(same_panel(&panel, &was));
     for (col = 0; col < SF; col++) {
         row_reads(&panel, row, DIRECT | 1u << col, bounce);
+        was.quiet = (uint8_t)(was.quiet + bounce);
         SO(same_panel(&panel, &was));
     }
     LINE(&panel, false);
@@ -124,7 +126,7 @@ static void releases_wait(struct panel *panel, unsigned row)
     SAME(codes[col], PANEL_NO_CODE);
 }
 
-/* Twelve keys held, then hidden for 600 looks with their contacts open: they stay held. Seen again, they are let go after D looks. */
+/* Twelve keys held, then hidden for 600 looks with their contacts open: they stay held, and the panel sleeps. Seen again, they are let go after D looks. */
 static void keep_twelve(unsigned row, unsigned bounce)
 {
     struct panel panel = desk(0x8C, bounce), was;
@@ -136,9 +138,12 @@ static void keep_twelve(unsigned row, unsigned bounce)
     quiet(&panel);
     was = panel;
     row_reads(&panel, row, DIRECT, 600);
+    was.quiet = 255;
+    was.asleep = true;
     SO(same_panel(&panel, &was));
     SO(matrix_is(&panel, row, true, 0));
     LINE(&panel, false);
+    SAME(WRITE(&panel, PANEL_KBDIC, 0x00), PANEL_ASLEEP);
     row_reads(&panel, row, 0, bounce - 1);
     SO(matrix_is(&panel, row, true, bounce - 1));
     READS(&panel, PANEL_EVTCODE, 0x7F);
@@ -584,6 +589,8 @@ static void told_restart(uint8_t size)
     told.count = 0;
     told.rsint = told.rklint = told.relint = false;
     told.size = size;
+    told.quiet = 0;
+    told.asleep = false;
 }
 
 /* How many of a key's newest samples in a row are the opposite of what it is. */
@@ -639,6 +646,18 @@ static bool told_key(unsigned row, unsigned col, uint16_t sample)
     return changed;
 }
 
+/* Is the newest sample of some key, if it had one, not how it is held? */
+static bool told_settling(void)
+{
+    unsigned key;
+    for (key = 0; key < PANEL_KEYS; key++) {
+        const struct history *history = &histories[key];
+        if (history->count > 0 && history->closed[history->count - 1] != told.held[key])
+            return true;
+    }
+    return false;
+}
+
 /* One look. */
 static void told_look(const uint16_t *samples)
 {
@@ -651,6 +670,7 @@ static void told_look(const uint16_t *samples)
     }
     met.looks++;
     met.hiding += hiding > 0;
+    told.quiet = (uint8_t)(changed || told_settling() ? 0 : told.quiet + 1);
     if (!changed)
         return;
     told.rklint |= told.rsint;
@@ -689,9 +709,10 @@ static void script_looks(struct panel *panel, uint16_t *contacts)
     SO(done == looks);
 }
 
-/* A write of D, mostly a small one; of KBDSIZE, which restarts; or of KBDIC. */
+/* A write of D, mostly a small one; of KBDSIZE, which restarts; or of KBDIC. No script makes so many looks in a row that the panel sleeps. */
 static void script_write(struct panel *panel)
 {
+    told.quiet = 0;
     if (once_in(8)) {
         told_restart(acceptable_size());
         SAME(WRITE(panel, PANEL_KBDSIZE, told.size), 0);
@@ -710,6 +731,7 @@ static void script_read(struct panel *panel)
     uint8_t codes[PANEL_PLACES];
     SAME(panel_read(panel, PANEL_EVTCODE, codes, sizeof codes), PANEL_DONE);
     SO(memcmp(codes, told.queue, sizeof codes) == 0);
+    told.quiet = 0;
     memset(told.queue, PANEL_NO_CODE, sizeof told.queue);
     told.count = 0;
 }

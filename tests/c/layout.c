@@ -3,8 +3,8 @@
 
 /* Where the archive keeps each field; written out here, so that a slip in the header is seen. */
 enum place { HELD_AT = 0, RUN_AT = 104, QUEUE_AT = 208, COUNT_AT = 223, BOUNCE_AT = 224, SIZE_AT = 225, MASK_AT = 226, RSINT_AT = 227,
-             RKLINT_AT = 228, RELINT_AT = 229, PORIRQ_AT = 230, SEEN_AT = 231, KEPT_AT = 235, EDGE_AT = 268, LEVEL_AT = 287,
-             SAMPLED_AT = 306, END = 307 };
+             RKLINT_AT = 228, RELINT_AT = 229, PORIRQ_AT = 230, SEEN_AT = 231, QUIET_AT = 235, ASLEEP_AT = 236, KEPT_AT = 237,
+             EDGE_AT = 270, LEVEL_AT = 289, SAMPLED_AT = 308, END = 309 };
 
 struct after_a_byte {
     char byte;
@@ -28,6 +28,8 @@ static void told_by_the_compiler(void)
     SAME(offsetof(struct panel, relint), RELINT_AT);
     SAME(offsetof(struct panel, porirq), PORIRQ_AT);
     SAME(offsetof(struct panel, seen), SEEN_AT);
+    SAME(offsetof(struct panel, quiet), QUIET_AT);
+    SAME(offsetof(struct panel, asleep), ASLEEP_AT);
     SAME(offsetof(struct panel, pins) + offsetof(struct panel_pins, kept), KEPT_AT);
     SAME(offsetof(struct panel, pins) + offsetof(struct panel_pins, edge), EDGE_AT);
     SAME(offsetof(struct panel, pins) + offsetof(struct panel_pins, level), LEVEL_AT);
@@ -182,6 +184,25 @@ static void places_seen(void)
     group_ends();
 }
 
+/* Quiet looks, the sleep that the 255th brings, and the access that wakes. */
+static void sleep_seen(void)
+{
+    group("layout seen through calls", "quiet looks and sleep");
+    struct panel panel = after_reset();
+    unsigned looks;
+    image_after_reset();
+    for (looks = 1; looks <= 255; looks++) {
+        SAME(LOOK(&panel, 0, 0, 0, 0, 0, 0, 0, 0), 0);
+        image[QUIET_AT] = (uint8_t)looks;
+        image[ASLEEP_AT] = looks == 255;
+        SO(is_image(&panel));
+    }
+    SAME(WRITE(&panel, PANEL_KBDBOUNCE, 0xA5), 27);
+    image_after_reset();
+    SO(is_image(&panel));
+    group_ends();
+}
+
 /* The pins' registers, each written and found in its own byte, and in no other. */
 static void registers_seen(void)
 {
@@ -268,6 +289,7 @@ void layout(void)
     keys_seen();
     marks_seen();
     places_seen();
+    sleep_seen();
     registers_seen();
     samples_seen();
     reset_seen();

@@ -32,6 +32,9 @@ const struct state unsound[] = {
     {"mask 10", {TO(mask, 0x10)}},
     {"mask 37", {TO(mask, 0x37)}},
     {"all four marks", {MARKS(4)}},
+    {"asleep, 254 quiet looks", {REST(254, 1)}},
+    {"asleep, no quiet look", {REST(0, 1)}},
+    {"awake, 255 quiet looks", {REST(255, 0)}},
 };
 
 const struct state sound[] = {
@@ -52,6 +55,19 @@ const struct state sound[] = {
     {"a run of 254, special function key held", {RUN_OF(0, 0, 254), HELD_KEY(0, 1), HELD_KEY(0, 12)}},
     {"runs of 1 and 2, special function key held with 1", {RUN_OF(0, 0, 1), HELD_KEY(0, 1), RUN_OF(0, 1, 2), HELD_KEY(0, 12), RUN_OF(0, 12, 1)}},
     {"special function key held with a run of 254", {HELD_KEY(0, 0), HELD_KEY(0, 12), RUN_OF(0, 12, 254)}},
+    {"a quiet look", {REST(1, 0)}},
+    {"254 quiet looks, awake", {REST(254, 0)}},
+    {"254 quiet looks, a key held under a special function key, 0C waits", {HELD_KEY(0, 1), HELD_KEY(0, 12), TO(count, 1), PLACE(0, 0x0C), REST(254, 0)}},
+    {"asleep", {REST(255, 1)}},
+    {"asleep, RELINT, 15 wait", {TO(relint, 1), TO(count, 15), PLACES(15, 0x00), REST(255, 1)}},
+    {"asleep, a key held, three marks", {HELD_KEY(1, 1), MARKS(3), REST(255, 1)}},
+};
+
+const struct state restless[] = {
+    {"a quiet look, a run of 1", {RUN_OF(0, 0, 1), REST(1, 0)}},
+    {"254 quiet looks, a run of 254", {RUN_OF(1, 12, 254), REST(254, 0)}},
+    {"asleep, a run of 1", {RUN_OF(0, 0, 1), REST(255, 1)}},
+    {"asleep, a run of 254 under a special function key", {HELD_KEY(0, 12), RUN_OF(0, 1, 254), REST(255, 1)}},
 };
 
 const struct state other_pins[] = {
@@ -65,6 +81,7 @@ const struct state other_pins[] = {
 
 const size_t unsound_count = sizeof unsound / sizeof unsound[0];
 const size_t sound_count = sizeof sound / sizeof sound[0];
+const size_t restless_count = sizeof restless / sizeof restless[0];
 const size_t other_pins_count = sizeof other_pins / sizeof other_pins[0];
 
 struct panel made(const struct state *state)

@@ -23,6 +23,7 @@ struct state {
 #define PLACE(n, value) {offsetof(struct panel, queue) + (n), 1, value}
 #define PLACES(count, value) {offsetof(struct panel, queue), count, value}
 #define MARKS(count) {offsetof(struct panel, seen), count, 1}
+#define REST(looks, sleeps) TO(quiet, looks), TO(asleep, sleeps)
 #define PIN(field, n, count, value) {offsetof(struct panel, pins) + offsetof(struct panel_pins, field) + (n), count, value}
 
 /* One or more unsound modules for each condition of soundness, and sound ones at its edges, with pins as after reset. */
@@ -30,6 +31,10 @@ extern const struct state unsound[];
 extern const size_t unsound_count;
 extern const struct state sound[];
 extern const size_t sound_count;
+
+/* Sound ones that no calls reach: quiet looks are counted, and a key has a run. */
+extern const struct state restless[];
+extern const size_t restless_count;
 
 /* Sound ones with other pins than after reset, whatever they hold; some of them no calls reach. */
 extern const struct state other_pins[];

@@ -6,7 +6,7 @@
 #include "modules.h"
 
 /* All pins, a bit each; those that size 22 uses, and those that it leaves free, which is the most; the keypad's bytes of a module; paint. */
-enum { ALL = 0x7FFFF, USED_22 = 0x00303, FREE_22 = 0x7FCFC, KEYPAD = 235, PAINT = 0xA5 };
+enum { ALL = 0x7FFFF, USED_22 = 0x00303, FREE_22 = 0x7FCFC, KEYPAD = 237, PAINT = 0xA5 };
 
 /* The registers that are kept, in the module's order. */
 static const uint8_t kept[33] = {0xAA, 0xAB, 0xAC, 0xAD, 0xAE, 0xAF, 0xC0, 0xC1, 0xC2, 0xC3, 0xC4, 0xC5, 0xC6, 0xC7, 0xC8, 0xC9, 0xCA,
@@ -733,19 +733,21 @@ static bool has_pins(const struct panel *panel, const struct panel *was, const s
     return memcmp(panel, was, KEYPAD) == 0 && memcmp(&panel->pins, &pins, sizeof pins) == 0;
 }
 
-/* A write, beside the model. */
+/* A write, beside the model. If it is done, no quiet look is counted after it. */
 static void check_write(struct panel *panel, struct model *model, unsigned first, const uint8_t *bytes, size_t count)
 {
     struct panel was = *panel;
     unsigned number = number_of(writable, 4, first, count);
     size_t i;
+    if (number == 0)
+        was.quiet = 0;
     for (i = 0; i < count && number == 0; i++)
         model_write(model, (unsigned)(first + i), bytes[i]);
     SAME(panel_write(panel, (uint8_t)first, bytes, count), number);
     SO(has_pins(panel, &was, model));
 }
 
-/* A read, beside the model: every byte of the buffer, and the bytes around it; it alters nothing. */
+/* A read, beside the model: every byte of the buffer, and the bytes around it; it alters nothing, but for the count of quiet looks. */
 static void check_bytes(struct panel *panel, const struct model *model, unsigned first, size_t count)
 {
     struct panel was = *panel;
@@ -753,6 +755,7 @@ static void check_bytes(struct panel *panel, const struct model *model, unsigned
     unsigned number = number_of(readable, 8, first, count);
     size_t i;
     SAME(panel_read(panel, PANEL_KBDMIS, &flags, 1), PANEL_DONE);
+    was.quiet = 0;
     memset(room, PAINT, sizeof room);
     memset(wanted, PAINT, sizeof wanted);
     for (i = 0; i < count && number == 0; i++)
@@ -817,10 +820,10 @@ static void some_access(struct panel *panel, struct model *model)
 /* What is driven and the line, beside the model. */
 static void some_question(const struct panel *panel, const struct model *model)
 {
-    struct panel was = *panel;
+    struct panel was = *panel, other = *panel;
     uint32_t on, level;
     uint8_t flags;
-    SAME(panel_read(&was, PANEL_KBDMIS, &flags, 1), PANEL_DONE);
+    SAME(panel_read(&other, PANEL_KBDMIS, &flags, 1), PANEL_DONE);
     model_drive(model, panel->size, &on, &level);
     DRIVES(panel, on, level);
     LINE(panel, panel->porirq || flags != 0 || (model->pending & word(model, 0xD2, 1)) != 0);

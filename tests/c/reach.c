@@ -1,7 +1,9 @@
 /*
- * Every sound state with its pins as after reset is reached from reset by calls alone, byte for byte; an unsound one is not, by the same calls.
+ * Every sound state with its pins as after reset, and with no run where quiet looks are counted, is reached from reset by calls alone, byte for byte; an
+ * unsound one is not, by the same calls, nor one with both: after a quiet look no key is settling, and all that makes a run makes the count 0.
  * While KBDBOUNCE is 1 no key has a run, and a look makes the keys what its samples say, but for those that a closed special function contact hides:
- * so codes, keys and flags come first, then marks, runs and settings. Where any key will do, it is row 0's special function key: no other changes with it.
+ * so codes, keys and flags come first, then marks, runs and settings, and quiet looks last. Where any key will do, it is row 0's special function key: no
+ * other changes with it.
  */
 #include "made.h"
 #include "modules.h"
@@ -39,10 +41,13 @@ static void look_other(struct way *way, unsigned row, unsigned col)
     look(way);
 }
 
-/* A write of one byte. */
+/* A write of one byte; of a module that sleeps it is made again. */
 static void write_byte(struct way *way, uint8_t address, uint8_t byte)
 {
-    gave(way, panel_write(&way->panel, address, &byte, 1));
+    uint8_t number = panel_write(&way->panel, address, &byte, 1);
+    if (number == PANEL_ASLEEP)
+        number = panel_write(&way->panel, address, &byte, 1);
+    gave(way, number);
 }
 
 /* A read of a few bytes, which nobody looks at. */
@@ -190,6 +195,15 @@ static void put_settings(struct way *way, const struct panel *wanted)
         write_byte(way, PANEL_RSTINTCLR, 1);
 }
 
+/* The quiet looks wanted: every contact as its key is held. */
+static void put_rest(struct way *way, const struct panel *wanted)
+{
+    unsigned looks;
+    close_held(way, wanted, PANEL_COLS);
+    for (looks = 0; looks < wanted->quiet; looks++)
+        look(way);
+}
+
 /* The calls that lead to a state; is it reached? */
 static bool reach(struct way *way, const struct panel *wanted)
 {
@@ -200,6 +214,7 @@ static bool reach(struct way *way, const struct panel *wanted)
     fetch_and_mark(way, wanted);
     put_runs(way, wanted);
     put_settings(way, wanted);
+    put_rest(way, wanted);
     return way->declined == PANEL_DONE && memcmp(&way->panel, wanted, sizeof *wanted) == 0;
 }
 
@@ -213,7 +228,7 @@ struct field {
 #define FIELD(name) {#name, offsetof(struct panel, name), sizeof(((struct panel *)0)->name)}
 
 static const struct field fields[] = {FIELD(held), FIELD(run), FIELD(queue), FIELD(count), FIELD(bounce), FIELD(size), FIELD(mask),
-                                     FIELD(rsint), FIELD(rklint), FIELD(relint), FIELD(porirq), FIELD(seen), FIELD(pins)};
+                                     FIELD(rsint), FIELD(rklint), FIELD(relint), FIELD(porirq), FIELD(seen), FIELD(quiet), FIELD(asleep), FIELD(pins)};
 
 /* Says of a field where it first differs, if it does. */
 static void say_field(const struct field *field, const uint8_t *is, const uint8_t *must)
@@ -241,6 +256,19 @@ static void say_why(const struct way *way, const struct panel *wanted, unsigned 
         say_field(field, is + field->at, must + field->at);
 }
 
+/* A random state: half of them with runs and no quiet look, half the other way round. */
+static struct panel some_state(void)
+{
+    struct panel panel = some_keypad();
+    unsigned key;
+    if (once_in(2))
+        return panel;
+    for (key = 0; key < PANEL_KEYS; key++)
+        panel.run[key] = 0;
+    some_rest(&panel);
+    return panel;
+}
+
 /* The states made by hand, then the random ones; the first that isn't reached is told of. */
 static bool sound_ones(void)
 {
@@ -249,37 +277,38 @@ static bool sound_ones(void)
     unsigned i, reached = 0, all = (unsigned)sound_count + RANDOM;
     chance_from(SEED);
     for (i = 0; i < all; i++) {
-        wanted = i < sound_count ? made(&sound[i]) : some_keypad();
+        wanted = i < sound_count ? made(&sound[i]) : some_state();
         if (reach(&way, &wanted))
             reached++;
         else if (reached == i)
             say_why(&way, &wanted, i);
     }
-    printf("reach: %u of %u sound states with pins as after reset reached from reset by calls alone\n", reached, all);
+    printf("reach: %u of %u sound states with pins as after reset, and no run where quiet looks are counted, reached from reset by calls alone\n", reached, all);
     return reached == all;
 }
 
-/* None of the unsound states is reached. */
-static bool unsound_ones(void)
+/* None of these states is reached. */
+static bool no_other(const char *kind, const struct state *states, size_t count)
 {
     struct panel wanted;
     struct way way;
     unsigned i, reached = 0;
-    for (i = 0; i < unsound_count; i++) {
-        wanted = made(&unsound[i]);
+    for (i = 0; i < count; i++) {
+        wanted = made(&states[i]);
         if (!reach(&way, &wanted))
             continue;
         reached++;
-        printf("reach: unsound state '%s': REACHED\n", unsound[i].name);
+        printf("reach: %s state '%s': REACHED\n", kind, states[i].name);
     }
-    printf("reach: %u of %u unsound states reached by the same calls\n", reached, (unsigned)unsound_count);
+    printf("reach: %u of %u %s states reached by the same calls\n", reached, (unsigned)count, kind);
     return reached == 0;
 }
 
-/* Both kinds. */
+/* Those that are reached, and those that aren't. */
 int main(void)
 {
     bool all = sound_ones();
-    bool none = unsound_ones();
-    return all && none ? 0 : 1;
+    bool none = no_other("unsound", unsound, unsound_count);
+    bool neither = no_other("restless", restless, restless_count);
+    return all && none && neither ? 0 : 1;
 }

@@ -3,8 +3,8 @@
 #include "chance.h"
 #include "host.c"
 
-/* Rounds under a mask; what one call can tell; the access that fails, if none does. */
-enum { ROUNDS = 500, ROOM = 256, NONE = 0 };
+/* Rounds under a mask; what one call can tell; the access that fails, if none does; what it gives. */
+enum { ROUNDS = 500, ROOM = 256, NONE = 0, BROKEN = 255 };
 
 /* A desk: the panel with its contacts, the host, and what passes between them. */
 struct desk {
@@ -18,7 +18,7 @@ struct desk {
     bool unsure;        /* changes were lost since the host's last start */
     /* of the call that runs: */
     unsigned left, between;                /* looks and resets that may still come between accesses, and that came */
-    unsigned accesses;
+    unsigned accesses, refused;            /* made, those that the panel declined since it slept included; and these alone */
     unsigned lost_due, lost_may;           /* RELINT cleared by KBDIC, and by a reset */
     unsigned gave, told;                   /* how many codes the module gave; how many things were told */
     unsigned given[ROOM], told_what[ROOM]; /* which */
@@ -38,6 +38,13 @@ static void looks(struct desk *desk, unsigned count)
 {
     while (count-- > 0)
         look(desk);
+}
+
+/* The desk is left alone: so many looks, and no contact moves. */
+static void leave_alone(struct desk *desk, unsigned count)
+{
+    while (count-- > 0)
+        SAME(panel_look(&desk->panel, desk->samples, PANEL_ROWS), PANEL_DONE);
 }
 
 /* The panel is reset, by its supply say; the host isn't asked. */
@@ -77,30 +84,41 @@ static bool asserted(void *driver)
     return desk->stuck || line_of(desk);
 }
 
-/* The host's read; the codes that the module gives are noted. */
-static bool read_bus(void *driver, uint8_t first, uint8_t *bytes, unsigned count)
+/* What comes before an access; false if it fails. Whether the panel sleeps is seen last. */
+static bool access_begins(struct desk *desk, bool *sleeps)
 {
-    struct desk *desk = driver;
-    unsigned i;
     meanwhile(desk);
+    *sleeps = desk->panel.asleep;
     if (++desk->accesses == desk->fails_at)
         return false;
-    SAME(panel_read(&desk->panel, first, bytes, count), PANEL_DONE);
-    for (i = 0; first == PANEL_EVTCODE && i < count && bytes[i] != PANEL_NO_CODE; i++)
-        desk->given[desk->gave++ % ROOM] = bytes[i];
+    desk->refused += *sleeps;
     return true;
 }
 
-/* The host's write; a loss that it clears is noted. */
-static bool write_bus(void *driver, uint8_t first, const uint8_t *bytes, unsigned count)
+/* The host's read; the codes that the module gives are noted. */
+static uint8_t read_bus(void *driver, uint8_t first, uint8_t *bytes, unsigned count)
 {
     struct desk *desk = driver;
-    meanwhile(desk);
-    if (++desk->accesses == desk->fails_at)
-        return false;
-    desk->lost_due += first == PANEL_KBDIC && (bytes[0] & 2) && desk->panel.relint;
-    SAME(panel_write(&desk->panel, first, bytes, count), PANEL_DONE);
-    return true;
+    unsigned i;
+    bool sleeps;
+    if (!access_begins(desk, &sleeps))
+        return BROKEN;
+    SAME(panel_read(&desk->panel, first, bytes, count), sleeps ? PANEL_ASLEEP : PANEL_DONE);
+    for (i = 0; !sleeps && first == PANEL_EVTCODE && i < count && bytes[i] != PANEL_NO_CODE; i++)
+        desk->given[desk->gave++ % ROOM] = bytes[i];
+    return sleeps ? PANEL_ASLEEP : PANEL_DONE;
+}
+
+/* The host's write; a loss that it clears is noted. */
+static uint8_t write_bus(void *driver, uint8_t first, const uint8_t *bytes, unsigned count)
+{
+    struct desk *desk = driver;
+    bool sleeps;
+    if (!access_begins(desk, &sleeps))
+        return BROKEN;
+    desk->lost_due += !sleeps && first == PANEL_KBDIC && (bytes[0] & 2) && desk->panel.relint;
+    SAME(panel_write(&desk->panel, first, bytes, count), sleeps ? PANEL_ASLEEP : PANEL_DONE);
+    return sleeps ? PANEL_ASLEEP : PANEL_DONE;
 }
 
 /* The host takes all keys as up. */
@@ -152,7 +170,7 @@ static void begin(struct desk *desk, uint8_t bounce, uint8_t mask)
 static enum host_end serve(struct desk *desk, unsigned most)
 {
     enum host_end end;
-    desk->accesses = desk->between = desk->gave = desk->told = desk->lost_due = desk->lost_may = 0;
+    desk->accesses = desk->refused = desk->between = desk->gave = desk->told = desk->lost_due = desk->lost_may = 0;
     desk->left = most;
     end = host_interrupt(&desk->host);
     desk->left = 0;
@@ -209,7 +227,7 @@ static void see_end(const struct desk *desk, enum host_end end, bool relint)
     unsigned changes = PANEL_RSINT | PANEL_REVTINT;
     SAME(end, HOST_QUIET);
     SO(!line_of(desk));
-    SO(desk->accesses <= 7 + 4 * desk->between);
+    SO(desk->accesses <= 7 + 4 * desk->between + desk->refused && desk->refused <= 1);
     codes_are_told(desk);
     losses_are_told(desk, relint);
     SO(!desk->reset_due);
@@ -221,7 +239,10 @@ static void see_end(const struct desk *desk, enum host_end end, bool relint)
         keys_are_known(desk);
 }
 
-/* Some typing, perhaps a reset and typing after it, a call of the routine; after a loss the host starts anew, sooner or later. */
+/*
+ * Some typing, perhaps a reset and typing after it, perhaps a stretch in which nobody touches the desk and the panel falls asleep; a call of the routine.
+ * After a loss the host starts anew, sooner or later.
+ */
 static void play_round(struct desk *desk)
 {
     bool relint;
@@ -230,28 +251,32 @@ static void play_round(struct desk *desk)
         reset_panel(desk);
         looks(desk, below(8));
     }
+    if (once_in(12))
+        leave_alone(desk, 250 + below(11));
     relint = line_of(desk) && desk->panel.relint;
     see_end(desk, serve(desk, below(4)), relint);
     if (desk->unsure && once_in(2))
         start(desk);
 }
 
-/* Rounds under a mask; codes, losses and resets did come. If nothing but a reset asserts the line, no loss need be told. */
+/* Rounds under a mask; codes, losses, resets and sleep did come. If nothing but a reset asserts the line, no loss need be told. */
 static void under_mask(const char *name, uint8_t mask)
 {
     group("host's routine, random typing, resets and overflows", name);
     struct desk desk;
-    unsigned round, codes = 0, losses = 0, resets = 0;
+    unsigned round, codes = 0, losses = 0, resets = 0, refused = 0;
     begin(&desk, (uint8_t)(1 + below(2)), mask);
     for (round = 0; round < ROUNDS; round++) {
         play_round(&desk);
         codes += desk.gave;
         losses += times_told(&desk, HOST_LOST);
         resets += times_told(&desk, HOST_RESET);
+        refused += desk.refused;
     }
     SO(codes > 0);
     SO(losses > 0 || mask == 0x0F);
     SO(resets > 0);
+    SO(refused > 0);
     group_ends();
 }
 
@@ -363,6 +388,34 @@ static void failing_bus(void)
     group_ends();
 }
 
+/* A key was pressed, and the host was late: 255 quiet looks on, the panel sleeps. One access more, and the code comes once; the start is repeated too. */
+static void sleeping_panel(void)
+{
+    group("host's routine", "a panel that sleeps");
+    static const unsigned pressed[] = {0x21}, fresh[] = {HOST_RESET};
+    struct desk desk;
+    begin(&desk, 1, 0x03);
+    desk.samples[2] = 0x0002;
+    leave_alone(&desk, 1 + 254);
+    TELLS(&desk, 2, pressed);
+    desk.samples[2] = 0;
+    leave_alone(&desk, 1);
+    desk.samples[2] = 0x0002;
+    leave_alone(&desk, 1 + 255);
+    check_told(&desk, 3, (const unsigned[]){0xA1, 0x21}, 2, __FILE__, __LINE__);
+    SAME(desk.refused, 1);
+    reset_panel(&desk);
+    desk.samples[2] = 0;
+    leave_alone(&desk, 255);
+    TELLS(&desk, 5, fresh);
+    SAME(desk.refused, 1);
+    leave_alone(&desk, 600);
+    SO(desk.panel.asleep);
+    start(&desk);
+    SO(!desk.panel.asleep && !line_of(&desk));
+    group_ends();
+}
+
 void routine(void)
 {
     after_a_reset();
@@ -370,5 +423,6 @@ void routine(void)
     full_queue();
     stuck_line();
     failing_bus();
+    sleeping_panel();
     every_mask();
 }

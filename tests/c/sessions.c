@@ -153,7 +153,7 @@ static void lengths(void)
     SAME(WRITE(&panel, 0x03, 0x1C, 0x00), 5);
 }
 
-/* Samples out of the size count as open: size 22 has columns 0, 1 and 12 of rows 0 and 1. Column 12 comes last: closed, it hides its row. */
+/* Samples out of the size count as open, so the first look is a quiet one: size 22 has columns 0, 1 and 12 of rows 0 and 1. Column 12 comes last: closed, it hides its row. */
 static void out_of_size(void)
 {
     struct panel panel = after_reset();
@@ -161,6 +161,7 @@ static void out_of_size(void)
     SAME(WRITE(&panel, 0x02, 1), 0);
     was = panel;
     SAME(LOOK(&panel, 0x0FFC, 0x0FFC, 0x1FFF, 0x1FFF, 0x1FFF, 0x1FFF, 0x1FFF, 0x1FFF), 0);
+    was.quiet = 1;
     SO(same_panel(&panel, &was));
     HELD(&panel, 2, 0, false);
     SAME(LOOK(&panel, 0x0FFF, 0x0FFF, 0x1FFF, 0x1FFF, 0x1FFF, 0x1FFF, 0x1FFF, 0x1FFF), 0);

@@ -1,6 +1,17 @@
-/* Modules made by hand: unsound ones are declined with 8, sound ones are served. */
+/* Modules made by hand: unsound ones are declined with 8, sound ones are served; of those that sleep an access is declined with 27. */
 #include "check.h"
 #include "made.h"
+
+/* The module that a declined access leaves: 27 wakes it, and alters nothing else. */
+static struct panel left_by(const struct panel *was, unsigned number)
+{
+    struct panel panel = *was;
+    if (number == 27) {
+        panel.quiet = 0;
+        panel.asleep = false;
+    }
+    return panel;
+}
 
 /* Every call but reset gives the number; before 8 nothing else is asked. */
 static void look_gives(const struct panel *was, size_t count, unsigned number)
@@ -14,19 +25,19 @@ static void look_gives(const struct panel *was, size_t count, unsigned number)
 static void write_gives(const struct panel *was, uint8_t first, size_t count, unsigned number)
 {
     static const uint8_t bytes[33] = {0};
-    struct panel panel = *was;
+    struct panel panel = *was, left = left_by(was, number);
     SAME(panel_write(&panel, first, bytes, count), number);
-    SO(number == 0 || same_panel(&panel, was));
+    SO(number == 0 || same_panel(&panel, &left));
 }
 
 static void read_gives(const struct panel *was, uint8_t first, size_t count, unsigned number)
 {
-    struct panel panel = *was;
+    struct panel panel = *was, left = left_by(was, number);
     uint8_t buffer[33], kept[33];
     memset(buffer, 0xA5, sizeof buffer);
     memset(kept, 0xA5, sizeof kept);
     SAME(panel_read(&panel, first, buffer, count), number);
-    SO(number == 0 || (same_panel(&panel, was) && memcmp(buffer, kept, sizeof kept) == 0));
+    SO(number == 0 || (same_panel(&panel, &left) && memcmp(buffer, kept, sizeof kept) == 0));
 }
 
 static void questions_give(const struct panel *was, uint8_t row, unsigned number)
@@ -51,13 +62,15 @@ static void pins_give(const struct panel *was, uint32_t sample, unsigned number)
     SO(number == 0 || same_panel(&panel, was));
 }
 
+/* Each call by itself; an access of a sleeping module gives 27 where 8 isn't given. */
 static void all_give(const struct panel *panel, unsigned number)
 {
+    unsigned of_access = number == 0 && panel->asleep ? 27 : number;
     look_gives(panel, 8, number);
-    write_gives(panel, PANEL_KBDBOUNCE, 1, number);
-    read_gives(panel, PANEL_EVTCODE, 1, number);
-    write_gives(panel, PANEL_GPIODATA0, 21, number);
-    read_gives(panel, PANEL_GPIODIR0, 15, number);
+    write_gives(panel, PANEL_KBDBOUNCE, 1, of_access);
+    read_gives(panel, PANEL_EVTCODE, 1, of_access);
+    write_gives(panel, PANEL_GPIODATA0, 21, of_access);
+    read_gives(panel, PANEL_GPIODIR0, 15, of_access);
     questions_give(panel, 0, number);
     pins_give(panel, 0x7FFFF, number);
 }
@@ -151,6 +164,7 @@ void states(void)
 {
     unsound_ones();
     sound_ones(sound, sound_count);
+    sound_ones(restless, restless_count);
     sound_ones(other_pins, other_pins_count);
     longest_run();
     full_queue();

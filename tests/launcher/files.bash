@@ -45,6 +45,21 @@ see_pins() {
     seen "a recording has accesses to the pins' registers, and no samples of the pins"
 }
 
+# An access that no packed list holds, of no bytes or of more than 32, is recorded if it woke the panel: as a read of one byte at its address.
+see_woken() {
+    printf '%s\n' 'wait 255' 'read 10 0' 'wait 1' 'read 10 33' 'wait 255' 'write 09' 'write 09' 'wait 254' 'read 0F 1' 'wait 1' 'read 02 33' 'show' >"$work/slept"
+    printf '%s\n' 'wait 255' 'read 10 1' 'wait 1' 'wait 255' 'read 09 1' 'wait 254' 'read 0F 1' 'wait 1' 'read 02 1' >"$work/told"
+    gives 0 ./panel --record "$work/one" <"$work/slept"
+    printf '%s\n' 0 27 0 4 0 27 3 0 5 0 27 >"$work/answers"
+    head -n 11 "$work/out" | cmp -s - "$work/answers" || failed "accesses of a panel that sleeps are answered otherwise"
+    says out 'awake, quiet looks 0'
+    gives 0 ./panel --record "$work/other" <"$work/told"
+    cmp -s "$work/one" "$work/other" || failed "an access that woke the panel is recorded otherwise than as a read of one byte"
+    "$second" --record "$work/second" <"$work/slept" >/dev/null
+    cmp -s "$work/one" "$work/second" || failed "an access that woke the panel is recorded otherwise than by the second module"
+    seen "a recording has a read of one byte for an access that it can't hold, and that woke the panel"
+}
+
 # block NAME BETWEEN: the longest block that a line holds, 1,023 looks, each sample one digit; the name comes first, and the words between its looks.
 block() {
     awk -v name="$1" -v between="$2" 'BEGIN {
@@ -114,18 +129,18 @@ see_declined() {
 
 # More than 65,536 bytes are recorded and played, and as many as a file may have.
 see_long_files() {
-    printf 'press 0 1\nwait 65535\nwrite 02 05\nrelease 0 1\n' >"$work/looks"
+    printf 'press 0 1\nwait 65535\nwrite 02 05\nwrite 02 05\nrelease 0 1\n' >"$work/looks"
     gives 0 ./panel --record "$work/long" <"$work/looks"
-    size "$work/long" 868448
+    size "$work/long" 868451
     "$second" --record "$work/second" <"$work/looks" >/dev/null
     cmp -s "$work/long" "$work/second" || failed "a long recording is other than the second module's"
-    { cat "$work/looks" && ask; } | ./panel | tail -n +5 >"$work/at_once"
+    { cat "$work/looks" && ask; } | ./panel | tail -n +6 >"$work/at_once"
     ask | ./panel --play "$work/long" >"$work/gone_on"
     cmp -s "$work/gone_on" "$work/at_once" || failed "a long recording is played otherwise"
     head -c "$longest" /dev/zero | tr '\0' '\377' >"$work/resets"
     gives 0 ./panel --play "$work/resets" --record "$work/copy" </dev/null
     size "$work/copy" $((longest + 1))
-    seen "868,448 bytes are recorded and played, and 1,048,576 are played"
+    seen "868,451 bytes are recorded and played, and 1,048,576 are played"
 }
 
 # A recording that can't be written ends the session, with one line that says so.
@@ -178,6 +193,7 @@ see_files_typed() {
 
 see_recorded
 see_pins
+see_woken
 see_block
 see_both
 see_declined

@@ -23,5 +23,7 @@ lent m held shown places count rsint seen =
       relint = shown .relint;
       porirq = m .porirq;
       seen = seen;
+      quiet = m .quiet;
+      asleep = m .asleep;
       pins = m .pins;
     }

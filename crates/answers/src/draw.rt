@@ -150,17 +150,26 @@ fn settings(p: Page, m: Module) -> Page {
 }
 
 // The power-on interrupt, and how the interrupt line is.
-fn level(p: Page, porirq: bool, asserted: bool) -> Page
-    ensures { λ r. ⌜ r .at ≤ 256 ⌝ }
-{
+fn level(p: Page, porirq: bool, asserted: bool) -> Page {
     let page = flag(p, b"\nPORIRQ ", porirq);
     if asserted {
-        return out::text(page, b", interrupt line asserted\n.\n");
+        return out::text(page, b", interrupt line asserted\n");
     }
-    out::text(page, b", interrupt line not asserted\n.\n")
+    out::text(page, b", interrupt line not asserted\n")
 }
 
-// The panel: keys, codes, registers, flags, pins and line; the last line is a full stop.
+// Whether the panel sleeps; while it is awake, how many quiet looks there were in a row. A full stop is the last line.
+fn sleep(p: Page, quiet: u8, asleep: bool) -> Page
+    ensures { λ r. ⌜ r .at ≤ 256 ⌝ }
+{
+    if asleep {
+        return out::text(p, b"asleep\n.\n");
+    }
+    let awake = out::text(p, b"awake, quiet looks ");
+    out::text(out::decimal(awake, quiet as u32), b"\n.\n")
+}
+
+// The panel: keys, codes, registers, flags, pins, line and sleep; the last line is a full stop.
 pub fn show(p: Page, m: Module) -> Page
     ensures { λ r. ⌜ r .at ≤ 256 ⌝ }
 {
@@ -169,5 +178,6 @@ pub fn show(p: Page, m: Module) -> Page
     let queue = m.queue;
     let waiting = codes(grid(p, &held, &run, m.size), queue, m.count);
     let set = settings(masked(raw(waiting, m), m), m);
-    level(spare::drawn(set, m), m.porirq, flags::line(m))
+    let line = level(spare::drawn(set, m), m.porirq, flags::line(m));
+    sleep(line, m.quiet, m.asleep)
 }

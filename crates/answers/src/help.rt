@@ -43,7 +43,7 @@ pub fn numbers(p: Page) -> Page
 {
     out::text(
         p,
-        b"A call answers with a number: 0 if it was done. Any other declines it, and nothing is altered.\n\
+        b"A call answers with a number: 0 if it was done. Any other declines it, and nothing is altered but as 2 and 27 tell.\n\
         0  done\n\
         1  look: the list isn't eight samples, or a block's not a multiple of eight\n\
         2  look: some sample has bit 13, 14 or 15 set; a block's looks before it stay done\n\
@@ -60,6 +60,7 @@ pub fn numbers(p: Page) -> Page
         24 undo groups: a press of a key that is down, or a release of one that is up\n\
         25 undo groups: the place is inside a group, or past the start of an open one\n\
         26 pins: some bit above 18 is set\n\
+        27 access: the panel slept; it is awake now, so repeat the access\n\
         9 was given by no call, is retired and gets no new use.\n\
         .\n",
     )

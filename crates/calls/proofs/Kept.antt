@@ -28,14 +28,15 @@ use Rattle.keys.proofs.Laws.{rows-most, code-key}
 use Rattle.contact.specs.declared.Contact.{Contact}
 use Rattle.contact.proofs.Laws.{step-low}
 use Rattle.state.specs.declared.Module.{Module}
-use Rattle.state.specs.Module.{Queue, queue, queueOf, withQueue, forgotten}
+use Rattle.state.specs.Module.{Queue, queue, queueOf, sleepOf, withQueue, forgotten}
 use Rattle.state.specs.Queue.{waiting, put, putAll}
 use Rattle.state.proofs.Laws.{put-room, put-full}
+use Rattle.state.proofs.Counted.{counted-least, counted-sleeps}
 use Rattle.picture.specs.Picture.{allRead}
 use Rattle.sound.specs.Sound.{keySound, codesSound, restUnused, sound}
 use Rattle.sound.proofs.Laws.{sound-facts, facts-sound, sound-out}
 use Rattle.sound.proofs.Exactly.{run-said, said-key}
-use Rattle.scan.specs.Scan.{sight, contactAt, changesBelow, changes, contacts, noticed, looked}
+use Rattle.scan.specs.Scan.{sight, contactAt, changesBelow, changes, calm, contacts, noticed, looked}
 use Rattle.pins.specs.declared.Pins.{Pins}
 use Rattle.pins.specs.Pins.{fresh}
 use Rattle.scan.specs.Walk.{Altered, whole, Still}
@@ -86,7 +87,7 @@ putAll-held size (c ∷ cs) q e h =
 pub bare : (d size : ℕ) (a : Altered) (mask : ℕ) (porirq : Bool) (pins : Pins) → sound (whole d size a mask porirq pins) ≡ true → sound (whole d size a 0 false fresh) ≡ true
 bare d size a mask porirq pins ok =
     let f = sound-facts (whole d size a mask porirq pins) ok in
-    facts-sound (whole d size a 0 false fresh) (record { size = f .size; keys = f .keys; few = f .few; codes = f .codes; rest = f .rest; mask = omega arith; marks = f .marks })
+    facts-sound (whole d size a 0 false fresh) (record { size = f .size; keys = f .keys; few = f .few; codes = f .codes; rest = f .rest; mask = omega arith; marks = f .marks; counted = f .counted; asleep = f .asleep })
 
 pub still : (m : Module) → Judged m → Still (m .size) (m .held) (m .run)
 still m j = record { rows = rows-most (m .size) (sound-facts m (j .ok) .size); keys = sound-out m (j .ok) }
@@ -101,12 +102,12 @@ noticed-kept m j =
       runs = j .runs;
       places = j .places;
       low = j .low;
-      ok = facts-sound (noticed m) (record { size = f .size; keys = f .keys; few = f .few; codes = f .codes; rest = f .rest; mask = f .mask; marks = refl });
+      ok = facts-sound (noticed m) (record { size = f .size; keys = f .keys; few = f .few; codes = f .codes; rest = f .rest; mask = f .mask; marks = refl; counted = f .counted; asleep = f .asleep });
     }
 
 -- ---- the keys
 module _ (m : Module) (s : List ℕ) (ok : sound m ≡ true) where
-  out : (k : ℕ) → k < 104 → keyIn (m .size) k ≡ false → contactAt m s k ≡ record { held = false; run = 0; changed = false }
+  out : (k : ℕ) → k < 104 → keyIn (m .size) k ≡ false → contactAt m s k ≡ record { held = false; run = 0; changed = false; settling = false }
   out k h e = let o = sound-out m ok k h e in out-rests m s k e (o .0) (o .1)
 
   key-kept : m .bounce ≤ 255 → (k : ℕ) → k < 104 → keySound (m .size) k (contactAt m s k .held) (contactAt m s k .run) ≡ true
@@ -154,6 +155,8 @@ module _ (m : Module) (s : List ℕ) (j : Judged m) where
           rest = q .rest;
           mask = f .mask;
           marks = f .marks;
+          counted = counted-least (sleepOf m) (calm m s);
+          asleep = counted-sleeps (sleepOf m) (calm m s);
         });
       }
 

@@ -4,11 +4,11 @@ use Rattle.judge.proofs.Opened as judge
 use Rattle.sound.proofs.Opened as sound
 use Rattle.scan.proofs.Opened as scan
 use Rattle.access.proofs.Opened as access
-use Rattle.calls.specs.Calls.{lookLines, heldLines, lookNumber, writeNumber, readNumber, heldNumber, interruptNumber, outcome, answer, resetCall, lookCall, writeCall, readCall, readBuffer, heldCall, interruptCall, pinsNumber, sampling, pinsCall, driveOf, driveCall}
+use Rattle.calls.specs.Calls.{lookLines, heldLines, lookNumber, accessNumber, writeNumber, readNumber, heldNumber, interruptNumber, outcome, accessed, answer, resetCall, lookCall, writeCall, readCall, readBuffer, heldCall, interruptCall, pinsNumber, sampling, pinsCall, driveOf, driveCall}
 use Rattle.calls.specs.Blocks.{singles, blockLines, looksCall}
 
 unfoldable pub opened : Bool
 unfolding judge.opened sound.opened scan.opened access.opened
-    lookLines heldLines lookNumber writeNumber readNumber heldNumber interruptNumber outcome answer resetCall lookCall writeCall readCall readBuffer heldCall interruptCall pinsNumber sampling pinsCall driveOf driveCall
+    lookLines heldLines lookNumber accessNumber writeNumber readNumber heldNumber interruptNumber outcome accessed answer resetCall lookCall writeCall readCall readBuffer heldCall interruptCall pinsNumber sampling pinsCall driveOf driveCall
     singles blockLines looksCall
 opened = true

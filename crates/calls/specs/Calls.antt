@@ -2,7 +2,9 @@
 --
 --    lookLines, heldLines           the lines of a look and of the held question
 --    lookNumber, writeNumber, ..    the number that the call gives
+--    accessNumber m lines           the number of an access, by its own lines
 --    outcome m x n, answer m a n    what a call hands back, by its number
+--    accessed m x n                 what an access hands back, by its number
 --    resetCall, lookCall, writeCall, readCall    the call: number and next state
 --    readBuffer m a out             the caller's buffer after a read
 --    heldCall, interruptCall        the questions: number, state and answer
@@ -14,12 +16,12 @@ use mathlib.Core.List.{List, [], _∷_}
 use lib.ListN.{length, getD}
 use lib.Dec.{eqb}
 use Rattle.words.specs.Words.{_if_, _else_}
-use Rattle.numbers.specs.Numbers.{Line, _gives_, numberOf, done, unsound}
+use Rattle.numbers.specs.Numbers.{Line, _gives_, numberOf, done, unsound, sleeping}
 use Rattle.keys.specs.Keys.{keyAt}
 use Rattle.pins.specs.Pins as pins
 use Rattle.judge.specs.Lines.{sampleLines, readLines, writeLines, keyLines, pinLines}
 use Rattle.state.specs.declared.Module.{Module}
-use Rattle.state.specs.Module.{fresh, withPins}
+use Rattle.state.specs.Module.{fresh, withPins, woken}
 use Rattle.flags.specs.Flags.{line}
 use Rattle.sound.specs.Sound.{sound}
 use Rattle.scan.specs.Scan.{looked}
@@ -39,11 +41,15 @@ heldLines m row col = not (sound m) gives unsound ∷ keyLines row col
 unfoldable pub lookNumber : Module → List ℕ → ℕ
 lookNumber m s = numberOf (lookLines m s)
 
+-- document 02, E7: "27 asleep, after 8 and before 3"
+unfoldable pub accessNumber : Module → List Line → ℕ
+accessNumber m lines = numberOf (not (sound m) gives unsound ∷ m .asleep gives sleeping ∷ lines)
+
 unfoldable pub writeNumber : Module → ℕ → List ℕ → ℕ
-writeNumber m a bs = numberOf (not (sound m) gives unsound ∷ writeLines a bs)
+writeNumber m a bs = accessNumber m (writeLines a bs)
 
 unfoldable pub readNumber : Module → ℕ → ℕ → ℕ
-readNumber m a n = numberOf (not (sound m) gives unsound ∷ readLines a n)
+readNumber m a n = accessNumber m (readLines a n)
 
 unfoldable pub heldNumber : Module → ℕ → ℕ → ℕ
 heldNumber m row col = numberOf (heldLines m row col)
@@ -54,6 +60,11 @@ interruptNumber m = numberOf (not (sound m) gives unsound ∷ [])
 -- "A declined call returns its number, the state as given": the number n, and the state x if it is 0, else m
 unfoldable pub outcome : Module → Module → ℕ → Done
 outcome m x n = record { after = x if eqb n done else m; number = n }
+
+-- E7: "An access is declined once and wakes it"; "that refusal alters only the sleep state and the count". One that is done begins the count anew:
+-- "with no change, no settling and no done access between them"
+unfoldable pub accessed : Module → Module → ℕ → Done
+accessed m x n = record { after = woken x if eqb n done else (woken m if eqb n sleeping else m); number = n }
 
 -- "for a question the answer no"
 unfoldable pub answer : Module → Bool → ℕ → Answered
@@ -66,10 +77,10 @@ unfoldable pub lookCall : Module → List ℕ → Done
 lookCall m s = outcome m (looked m s) (lookNumber m s)
 
 unfoldable pub writeCall : Module → ℕ → List ℕ → Done
-writeCall m a bs = outcome m (wrote m a bs) (writeNumber m a bs)
+writeCall m a bs = accessed m (wrote m a bs) (writeNumber m a bs)
 
 unfoldable pub readCall : Module → ℕ → ℕ → Done
-readCall m a n = outcome m (readAll m a n) (readNumber m a n)
+readCall m a n = accessed m (readAll m a n) (readNumber m a n)
 
 -- "A read fills the whole buffer lent"; a declined one "leaves the buffer's bytes as they were"
 unfoldable pub readBuffer : Module → ℕ → List ℕ → List ℕ

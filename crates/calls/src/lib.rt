@@ -9,7 +9,7 @@ ghost use Prim.Native.Nat.{_/_};
 ghost use mathlib.Core.Path.{_≡_};
 ghost use mathlib.Core.Bool.{true, false};
 ghost use lib.ListN.{length};
-ghost use Rattle.state.specs.Module.{queue};
+ghost use Rattle.state.specs.Module.{queue, sleep};
 ghost use Rattle.pins.specs.Pins as part;
 ghost use Rattle.sound.specs.Sound.{sound};
 ghost use Rattle.scan.specs.Walk.{altered, whole};
@@ -17,7 +17,7 @@ ghost use Rattle.calls.specs.Calls.{resetCall, lookCall, writeCall, read
 ghost use Rattle.calls.specs.Blocks.{singles, looksCall};
 ghost use Rattle.calls.specs.Walk.{Judged, MadeOn};
 
-// What reset, look, write and read hand back; after a declined call the module is as it was given.
+// What reset, look, write and read hand back; after a declined call the module is as it was given, but that an access declined by ASLEEP has woken it.
 #[repr(C)]
 pub struct Done {
     pub after: Module,
@@ -98,17 +98,20 @@ fn look_by_look(
     rsint: &mut bool,
     rklint: &mut bool,
     seen: &mut [bool; 4],
+    quiet: &mut u8,
+    asleep: &mut bool,
     samples: &[u16],
     size: u8,
     bounce: u8,
 ) -> Made
     requires { ⌜ Judged (whole bounce size
-        (altered (now held) (now run) (queue (now places) (now count) (now relint)) (now rsint) (now rklint) (now seen)) 0 false part.fresh) ⌝ }
+        (altered (now held) (now run) (queue (now places) (now count) (now relint)) (now rsint) (now rklint) (now seen)
+        (sleep (now quiet) (now asleep))) 0 false part.fresh) ⌝ }
     ensures { λ r. ⌜ MadeOn bounce size (now (samples .entry))
         (altered (now (held .entry)) (now (run .entry)) (queue (now (places .entry)) (now (count .entry)) (now (relint .entry)))
-        (now (rsint .entry)) (now (rklint .entry)) (now (seen .entry)))
+        (now (rsint .entry)) (now (rklint .entry)) (now (seen .entry)) (sleep (now (quiet .entry)) (now (asleep .entry))))
         (altered (now (held .exit)) (now (run .exit)) (queue (now (places .exit)) (now (count .exit)) (now (relint .exit)))
-        (now (rsint .exit)) (now (rklint .exit)) (now (seen .exit))) r ⌝ }
+        (now (rsint .exit)) (now (rklint .exit)) (now (seen .exit)) (sleep (now (quiet .exit)) (now (asleep .exit)))) r ⌝ }
 {
     let looks = samples.len() / SAMPLES;
     let mut done: usize = 0;
@@ -131,6 +134,8 @@ fn look_by_look(
             rsint,
             rklint,
             seen,
+            quiet,
+            asleep,
             &samples[from..to],
             size,
             bounce,
@@ -156,6 +161,8 @@ fn looks_of_sound(m: Module, samples: &[u16]) -> Block
     let mut rsint = m.rsint;
     let mut rklint = m.rklint;
     let mut seen = m.seen;
+    let mut quiet = m.quiet;
+    let mut asleep = m.asleep;
     let made = look_by_look(
         &mut held,
         &mut run,
@@ -165,6 +172,8 @@ fn looks_of_sound(m: Module, samples: &[u16]) -> Block
         &mut rsint,
         &mut rklint,
         &mut seen,
+        &mut quiet,
+        &mut asleep,
         samples,
         m.size,
         m.bounce,
@@ -178,6 +187,8 @@ fn looks_of_sound(m: Module, samples: &[u16]) -> Block
     after.rsint = rsint;
     after.rklint = rklint;
     after.seen = seen;
+    after.quiet = quiet;
+    after.asleep = asleep;
     Block {
         after: after,
         done: made.done,
@@ -206,7 +217,7 @@ pub fn looks(m: Module, samples: &[u16]) -> Block
     looks_of_sound(m, samples)
 }
 
-// A write access: bytes to the registers from a first address on.
+// A write access: bytes to the registers from a first address on. Of a panel that sleeps it is declined, and wakes it.
 pub fn write(m: Module, first: u8, bytes: &[u8]) -> Done
     ensures { λ r. ⌜ r ≡ writeCall m first (now (bytes .entry)) ⌝ }
 {
@@ -214,6 +225,12 @@ pub fn write(m: Module, first: u8, bytes: &[u8]) -> Done
         return Done {
             after: m,
             number: numbers::UNSOUND,
+        };
+    }
+    if m.asleep {
+        return Done {
+            after: state::woken(m),
+            number: numbers::ASLEEP,
         };
     }
     let number = judge::of_write(first as u16, bytes);
@@ -224,12 +241,12 @@ pub fn write(m: Module, first: u8, bytes: &[u8]) -> Done
         };
     }
     Done {
-        after: access::wrote(m, first as u16, bytes),
+        after: state::woken(access::wrote(m, first as u16, bytes)),
         number: numbers::DONE,
     }
 }
 
-// A read access: the buffer is filled from the registers from a first address on.
+// A read access: the buffer is filled from the registers from a first address on. Of a panel that sleeps it is declined, and wakes it.
 pub fn read(m: Module, first: u8, out: &mut [u8]) -> Done
     ensures { λ r. ⌜ (r ≡ readCall m first (length (now (out .entry)))) × (now (out .exit) ≡ readBuffer m first (now (out .entry))) ⌝ }
 {
@@ -239,6 +256,12 @@ pub fn read(m: Module, first: u8, out: &mut [u8]) -> Done
             number: numbers::UNSOUND,
         };
     }
+    if m.asleep {
+        return Done {
+            after: state::woken(m),
+            number: numbers::ASLEEP,
+        };
+    }
     let number = judge::of_read(first as u16, out.len());
     if number != numbers::DONE {
         return Done {
@@ -246,8 +269,11 @@ pub fn read(m: Module, first: u8, out: &mut [u8]) -> Done
             number: number,
         };
     }
+    let mut after = access::fill(m, first as u16, out);
+    after.quiet = 0;
+    after.asleep = false;
     Done {
-        after: access::fill(m, first as u16, out),
+        after: after,
         number: numbers::DONE,
     }
 }

@@ -62,21 +62,22 @@ fn took(s: Session, bytes: [u8; 33], count: usize, done: Done) -> Session {
     bytes_read(s, done, &bytes[0..n])
 }
 
-// Makes a call and answers it.
+// Makes a call, records it and answers it.
 fn answered(s: Session, call: Call, fetched: &mut [u8]) -> Session {
     let made = make(s.panel, call, fetched, s.codes);
+    let done = made.done;
     let kind = call.kind;
-    let mut next = s;
+    let mut next = noted(s, call, done.number);
     next.codes = made.codes;
     if kind == LOOK {
         let samples = call.values;
-        return looked(next, samples, made.done);
+        return looked(next, samples, done);
     }
     if kind == READ {
         let bytes = made.bytes;
-        return took(next, bytes, call.count as usize, made.done);
+        return took(next, bytes, call.count as usize, done);
     }
-    told(next, made.done)
+    told(next, done)
 }
 
 // `look S0 S1 ..`, `write AA B0 B1 ..`, `read AA COUNT`, `reset`
@@ -86,7 +87,7 @@ fn called(s: Session, kind: u16, rest: &[u8], list: &mut [u16], fetched: &mut [u
     let heard = typed.heard;
     match heard {
         Heard::Wrong(wrong) => on_page(s, refused_call(s.page, kind, rest, wrong)),
-        Heard::Well => noted(answered(s, call, fetched), call),
+        Heard::Well => answered(s, call, fetched),
     }
 }
 

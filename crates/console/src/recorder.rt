@@ -1,5 +1,7 @@
 // The recorder: the calls of a session go as a packed list to a file. Samples of the pins are left out: no list has them.
 use crate::session::Session;
+use crate::typed::READ;
+use crate::typed::plain;
 use answers::files;
 use answers::out;
 use carry::call::Call;
@@ -93,10 +95,25 @@ pub(crate) fn recorded(tape: Tape, call: Call) -> Tape {
     rewound(next)
 }
 
-// The session with one call more on its tape.
-pub(crate) fn noted(s: Session, call: Call) -> Session {
+// The call that a list has for one that gave this number: itself, or a read of one byte for an access that woke the panel and has no record, being of 0 or more than 32 bytes.
+fn carried_as(call: Call, number: u8) -> Call {
+    let count = call.count;
+    if number != numbers::ASLEEP {
+        return call;
+    }
+    if count < 1 {
+        return plain(READ, call.first as u32, 1);
+    }
+    if 32 < count {
+        return plain(READ, call.first as u32, 1);
+    }
+    call
+}
+
+// The session with one call more on its tape, which gave this number.
+pub(crate) fn noted(s: Session, call: Call, number: u8) -> Session {
     let mut next = s;
-    next.tape = recorded(s.tape, call);
+    next.tape = recorded(s.tape, carried_as(call, number));
     next
 }
 

@@ -10,7 +10,12 @@
 --    through-existing, through-rule    that is the step carried over the samples that exist, and so the rule over these
 --    through-changes  it changes at a look exactly when its sample exists there and its last D existing ones are all the opposite
 --    through-low      its run is at most 254
+--    settling-run     a contact is settling exactly when it has a run
+--    settling-existing    after looks it is settling exactly when its newest existing sample differs from how it is held
 --    step-changed     a contact that changed is held as the look shows it
+--    changed-settled  and it isn't settling then
+--    step-settling    a test tells settling exactly if it tells a run
+--    told-by-moved    so what a look needs of a test tells the test
 --    sight-opposite, sight-turned, sight-kept    a change at such a look is to the opposite, and how the contact is held afterwards
 --    sample-low, step-low    a step's run is at most 254, whatever the run was
 --    run-low          no run is above 254, if every KBDBOUNCE is a byte
@@ -26,14 +31,15 @@ use mathlib.Core.Path.{_≡_, refl, sym, ap, _∙_}
 use mathlib.Core.Bool.{Bool, true, false, not, _&&_, cond, Bool·beq, and-false}
 use mathlib.Core.List.{List, [], _∷_}
 use lib.ListN.{length, take}
-use borrow.Author.Tests.{lt-leb, le-leb, leb-true, leb-false}
-use lib.Dec.{leb, leb·zero, leb·suc-zero, leb·suc-suc}
+use borrow.Author.Tests.{lt-leb, le-leb, leb-true, leb-false, lt-ltb}
+use lib.Dec.{leb, ltb, leb·zero, leb·suc-zero, leb·suc-suc}
 use Rattle.words.specs.Words.{all}
 use Rattle.words.proofs.Laws.{true-false, all-first, all-rest}
 use Rattle.contact.specs.declared.Contact.{Contact}
+use Rattle.contact.specs.declared.Moved.{Moved}
 use Rattle.contact.specs.declared.Sight.{Sight}
 use Rattle.contact.specs.declared.Sight.the-variants.{Hidden, Open, Closed}
-use Rattle.contact.specs.Contact.{looks, opposite, changes, Seen, samples, heldAfter, runOf, sampled, stepped, sightOf, Look, exists, isClosed, existing}
+use Rattle.contact.specs.Contact.{looks, opposite, changes, Seen, samples, heldAfter, runOf, settling, moved, sampled, stepped, sightOf, Look, exists, isClosed, existing}
 
 -- the n newest samples exist and are all the opposite exactly when the run is at least n
 by-run : (held : Bool) (n : ℕ) (ss : List Bool) → (leb n (length ss) && all (opposite held) (take n ss)) ≡ leb n (runOf held ss)
@@ -55,12 +61,24 @@ at-least-one : (d : ℕ) → leb (looks d) 0 ≡ false
 unfolding looks
 at-least-one d = lt-leb (looks d) 0 (omega arith)
 
+-- "settling", said by the run
+pub settling-run : (held : Bool) (ss : List Bool) → settling held ss ≡ ltb 0 (runOf held ss)
+unfolding settling runOf
+settling-run held [] = refl
+settling-run held (s ∷ ss) = go (opposite held s)
+  where
+    go : (b : Bool) → b ≡ ltb 0 (cond b (runOf held ss + 1) 0)
+    go true = sym (lt-ltb 0 (runOf held ss + 1) (omega arith))
+    go false = refl
+
 -- what the rule over the samples makes of a contact
 ruled : ℕ → Bool → List Bool → Contact
-ruled d held ss = record { held = cond (changes d held ss) (not held) held; run = runOf (cond (changes d held ss) (not held) held) ss; changed = changes d held ss }
+ruled d held ss =
+    let after = cond (changes d held ss) (not held) held in
+    record { held = after; run = runOf after ss; changed = changes d held ss; settling = settling after ss }
 
 step-ruled : (d : ℕ) (held s : Bool) (ss : List Bool) → sampled held (runOf held ss) s d ≡ ruled d held (s ∷ ss)
-unfolding sampled runOf ruled opposite
+unfolding sampled runOf ruled opposite settling
 step-ruled d held s ss = go held s (leb (looks d) (runOf held ss + 1)) refl
   where
     go : (held s b : Bool) → leb (looks d) (runOf held ss + 1) ≡ b → sampled held (runOf held ss) s d ≡ ruled d held (s ∷ ss)
@@ -73,13 +91,13 @@ step-ruled d held s ss = go held s (leb (looks d) (runOf held ss + 1)) refl
 
 -- what is held and the run are all that has to be remembered
 pub run-enough : (x : Seen) (h : List Seen) → sampled (heldAfter h) (runOf (heldAfter h) (samples h)) (x .closed) (x .bounce)
-    ≡ record { held = heldAfter (x ∷ h); run = runOf (heldAfter (x ∷ h)) (samples (x ∷ h)); changed = changes (x .bounce) (heldAfter h) (samples (x ∷ h)) }
+    ≡ record { held = heldAfter (x ∷ h); run = runOf (heldAfter (x ∷ h)) (samples (x ∷ h)); changed = changes (x .bounce) (heldAfter h) (samples (x ∷ h)); settling = settling (heldAfter (x ∷ h)) (samples (x ∷ h)) }
 unfolding heldAfter samples ruled
 run-enough x h = step-ruled (x .bounce) (heldAfter h) (x .closed) (samples h)
 
 -- a contact carried from look to look by the step
 unfoldable pub carried : List Seen → Contact
-carried [] = record { held = false; run = 0; changed = false }
+carried [] = record { held = false; run = 0; changed = false; settling = false }
 carried (x ∷ h) = sampled (carried h .held) (carried h .run) (x .closed) (x .bounce)
 
 pub carried-held : (h : List Seen) → (carried h .held ≡ heldAfter h) × (carried h .run ≡ runOf (heldAfter h) (samples h))
@@ -88,7 +106,7 @@ carried-held [] = (refl, refl)
 carried-held (x ∷ h) = let i = carried-held h in rw (i .0, i .1, run-enough x h) (refl, refl)
 
 -- ---- looks at which there may be no sample
-pub hidden-keeps : (held : Bool) (run d : ℕ) → stepped held run Hidden d ≡ record { held = held; run = run; changed = false }
+pub hidden-keeps : (held : Bool) (run d : ℕ) → stepped held run Hidden d ≡ record { held = held; run = run; changed = false; settling = ltb 0 run }
 unfolding stepped
 hidden-keeps held run d = refl
 
@@ -100,7 +118,7 @@ seen hidden x h = cond hidden h (x ∷ h)
 abbrev pub turns : Bool → Seen → List Seen → Bool
 turns hidden x h = cond hidden false (changes (x .bounce) (heldAfter h) (samples (seen hidden x h)))
 
-pub step-rests : (b : Bool) (d : ℕ) → stepped false 0 (sightOf b false) d ≡ record { held = false; run = 0; changed = false }
+pub step-rests : (b : Bool) (d : ℕ) → stepped false 0 (sightOf b false) d ≡ record { held = false; run = 0; changed = false; settling = false }
 unfolding stepped sightOf sampled opposite
 step-rests true d = refl
 step-rests false d = refl
@@ -111,13 +129,13 @@ step-sample held run true d = refl
 step-sample held run false d = refl
 
 pub look-enough : (b : Bool) (x : Seen) (h : List Seen) → stepped (heldAfter h) (runOf (heldAfter h) (samples h)) (sightOf b (x .closed)) (x .bounce)
-    ≡ record { held = heldAfter (seen b x h); run = runOf (heldAfter (seen b x h)) (samples (seen b x h)); changed = turns b x h }
+    ≡ record { held = heldAfter (seen b x h); run = runOf (heldAfter (seen b x h)) (samples (seen b x h)); changed = turns b x h; settling = settling (heldAfter (seen b x h)) (samples (seen b x h)) }
 unfolding sightOf
-look-enough true x h = hidden-keeps (heldAfter h) (runOf (heldAfter h) (samples h)) (x .bounce)
+look-enough true x h = rw (settling-run (heldAfter h) (samples h)) (hidden-keeps (heldAfter h) (runOf (heldAfter h) (samples h)) (x .bounce))
 look-enough false x h = step-sample (heldAfter h) (runOf (heldAfter h) (samples h)) (x .closed) (x .bounce) ∙ run-enough x h
 
 unfoldable pub through : List Look → Contact
-through [] = record { held = false; run = 0; changed = false }
+through [] = record { held = false; run = 0; changed = false; settling = false }
 through (x ∷ l) = stepped (through l .held) (through l .run) (x .sight) (x .bounce)
 
 pub through-existing : (l : List Look) → (through l .held ≡ carried (existing l) .held) × (through l .run ≡ carried (existing l) .run)
@@ -151,12 +169,30 @@ through-changes x l = let e = through-rule l in rw (e .0, e .1) (go (x .sight))
     go Open = ap (λ (y : Contact). y .changed) (run-enough (record { bounce = x .bounce; closed = false }) h)
     go Closed = ap (λ (y : Contact). y .changed) (run-enough (record { bounce = x .bounce; closed = true }) h)
 
+pub settling-existing : (x : Look) (l : List Look) → through (x ∷ l) .settling ≡ settling (heldAfter (existing (x ∷ l))) (samples (existing (x ∷ l)))
+unfolding through existing stepped exists isClosed
+settling-existing x l = let e = through-rule l in rw (e .0, e .1) (go (x .sight))
+  where
+    h : List Seen
+    h = existing l
+
+    go : (o : Sight) → stepped (heldAfter h) (runOf (heldAfter h) (samples h)) o (x .bounce) .settling
+        ≡ settling (heldAfter (cond (exists o) (record { bounce = x .bounce; closed = isClosed o } ∷ h) h)) (samples (cond (exists o) (record { bounce = x .bounce; closed = isClosed o } ∷ h) h))
+    go Hidden = sym (settling-run (heldAfter h) (samples h))
+    go Open = ap (λ (y : Contact). y .settling) (run-enough (record { bounce = x .bounce; closed = false }) h)
+    go Closed = ap (λ (y : Contact). y .settling) (run-enough (record { bounce = x .bounce; closed = true }) h)
+
+-- what a sample makes of a contact: it is the opposite of how the contact is held, and the run is then long enough
+abbrev told : Bool → ℕ → Bool → Bool → Contact
+told held run o b =
+    cond o (cond b (record { held = not held; run = 0; changed = true; settling = false }) (record { held = held; run = run + 1; changed = false; settling = true }))
+    (record { held = held; run = 0; changed = false; settling = false })
+
 pub sample-low : (held : Bool) (run : ℕ) (s : Bool) (d : ℕ) → d ≤ 255 → sampled held run s d .run ≤ 254
 unfolding sampled looks
 sample-low held run s d h = go (opposite held s) (leb (looks d) (run + 1)) refl
   where
-    go : (o b : Bool) → leb (looks d) (run + 1) ≡ b
-        → cond o (cond {A = Contact} b (record { held = not held; run = 0; changed = true }) (record { held = held; run = run + 1; changed = false })) (record { held = held; run = 0; changed = false }) .run ≤ 254
+    go : (o b : Bool) → leb (looks d) (run + 1) ≡ b → told held run o b .run ≤ 254
     go false b e = omega arith
     go true true e = omega arith
     go true false e = let l : run + 1 < looks d = leb-false (looks d) (run + 1) e in omega arith
@@ -214,14 +250,12 @@ sample-changed true run true d e = true-false (sym e)
 sample-changed false run false d e = true-false (sym e)
 sample-changed true run false d e = go (leb (looks d) (run + 1)) e
   where
-    go : (b : Bool) → cond {A = Contact} b (record { held = false; run = 0; changed = true }) (record { held = true; run = run + 1; changed = false }) .changed ≡ true
-        → cond {A = Contact} b (record { held = false; run = 0; changed = true }) (record { held = true; run = run + 1; changed = false }) .held ≡ false
+    go : (b : Bool) → told true run true b .changed ≡ true → told true run true b .held ≡ false
     go true f = refl
     go false f = true-false (sym f)
 sample-changed false run true d e = go (leb (looks d) (run + 1)) e
   where
-    go : (b : Bool) → cond {A = Contact} b (record { held = true; run = 0; changed = true }) (record { held = false; run = run + 1; changed = false }) .changed ≡ true
-        → cond {A = Contact} b (record { held = true; run = 0; changed = true }) (record { held = false; run = run + 1; changed = false }) .held ≡ true
+    go : (b : Bool) → told false run true b .changed ≡ true → told false run true b .held ≡ true
     go true f = refl
     go false f = true-false (sym f)
 
@@ -230,6 +264,43 @@ unfolding stepped sightOf
 step-changed true held run s d e = true-false (sym e)
 step-changed false held run true d e = sample-changed held run true d e
 step-changed false held run false d e = sample-changed held run false d e
+
+sample-settling : (held : Bool) (run : ℕ) (s : Bool) (d : ℕ) → sampled held run s d .settling ≡ ltb 0 (sampled held run s d .run)
+unfolding sampled
+sample-settling held run s d = go (opposite held s) (leb (looks d) (run + 1))
+  where
+    go : (o b : Bool) → told held run o b .settling ≡ ltb 0 (told held run o b .run)
+    go false b = refl
+    go true true = refl
+    go true false = sym (lt-ltb 0 (run + 1) (omega arith))
+
+pub step-settling : (held : Bool) (run : ℕ) (o : Sight) (d : ℕ) → stepped held run o d .settling ≡ ltb 0 (stepped held run o d .run)
+unfolding stepped
+step-settling held run Hidden d = refl
+step-settling held run Open d = sample-settling held run false d
+step-settling held run Closed d = sample-settling held run true d
+
+pub told-by-moved : (held : Bool) (run : ℕ) (o : Sight) (d : ℕ) (x : Moved) → x ≡ moved (stepped held run o d)
+    → _≡_ {A = Contact} (record { held = x .held; run = x .run; changed = x .changed; settling = ltb 0 (x .run) }) (stepped held run o d)
+unfolding moved
+told-by-moved held run o d x e = let y = stepped held run o d in
+    ap (λ (z : Moved). record { held = z .held; run = z .run; changed = z .changed; settling = ltb 0 (z .run) }) e
+    ∙ ap (λ (b : Bool). record { held = y .held; run = y .run; changed = y .changed; settling = b }) (sym (step-settling held run o d))
+
+sample-settled : (held : Bool) (run : ℕ) (s : Bool) (d : ℕ) → sampled held run s d .changed ≡ true → sampled held run s d .settling ≡ false
+unfolding sampled
+sample-settled held run s d e = go (opposite held s) (leb (looks d) (run + 1)) e
+  where
+    go : (o b : Bool) → told held run o b .changed ≡ true → told held run o b .settling ≡ false
+    go false b f = refl
+    go true true f = refl
+    go true false f = true-false (sym f)
+
+pub changed-settled : (held : Bool) (run : ℕ) (o : Sight) (d : ℕ) → stepped held run o d .changed ≡ true → stepped held run o d .settling ≡ false
+unfolding stepped
+changed-settled held run Hidden d e = true-false (sym e)
+changed-settled held run Open d e = sample-settled held run false d e
+changed-settled held run Closed d e = sample-settled held run true d e
 
 module _ (b : Bool) (x : Seen) (h : List Seen) where
   pub sight-opposite : turns b x h ≡ true → x .closed ≡ not (heldAfter h)

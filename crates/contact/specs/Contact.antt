@@ -7,8 +7,10 @@
 --    samples h            the samples of a history
 --    heldAfter h          is the contact held after a history?
 --    runOf held ss        the run
+--    settling held ss     is the contact settling, being held so?
 --    sampled              one sample more of a contact of which only the run is remembered
---    stepped              one look more of it, at which it may have no sample
+--    stepped              one look more of it, at which it may have no sample: the test of a contact
+--    moved x              what a look over many contacts needs of a test x
 --    sightOf hidden s     what the look shows: nothing if the contact is hidden, else its sample
 --    exists o, isClosed o the contact has a sample in a look that shows o; it reads closed there
 --    Look, existing l     a look at the contact, with the KBDBOUNCE in force; the samples of looks that exist
@@ -18,9 +20,10 @@ use Prim.Native.Nat.{ℕ, _+_, max}
 use mathlib.Core.Bool.{Bool, true, false, not, _&&_, Bool·beq}
 use mathlib.Core.List.{List, [], _∷_}
 use lib.ListN.{length, take}
-use lib.Dec.{leb}
+use lib.Dec.{leb, ltb}
 use Rattle.words.specs.Words.{_if_, _else_, all}
 use Rattle.contact.specs.declared.Contact.{Contact}
+use Rattle.contact.specs.declared.Moved.{Moved}
 use Rattle.contact.specs.declared.Sight.{Sight}
 use Rattle.contact.specs.declared.Sight.the-variants.{Hidden, Open, Closed}
 
@@ -55,17 +58,26 @@ unfoldable pub runOf : Bool → List Bool → ℕ
 runOf held [] = 0
 runOf held (s ∷ ss) = runOf held ss + 1 if opposite held s else 0
 
--- what is held, the run, and whether it changed, after one more sample
+-- document 02, E7: "whether it is settling: its newest existing sample differs from what it is held as"
+unfoldable pub settling : Bool → List Bool → Bool
+settling held [] = false
+settling held (s ∷ ss) = opposite held s
+
+-- what is held, the run, whether it changed, and whether it is settling then, after one more sample
 unfoldable pub sampled : Bool → ℕ → Bool → ℕ → Contact
 sampled held run s d =
-    (record { held = not held; run = 0; changed = true } if leb (looks d) (run + 1) else record { held = held; run = run + 1; changed = false })
-    if opposite held s else record { held = held; run = 0; changed = false }
+    (record { held = not held; run = 0; changed = true; settling = false } if leb (looks d) (run + 1)
+    else record { held = held; run = run + 1; changed = false; settling = true })
+    if opposite held s else record { held = held; run = 0; changed = false; settling = false }
 
--- "a key with none [no sample] in a look doesn't change at it"
+-- "a key with none [no sample] in a look doesn't change at it"; it settles by its last sample, which its run tells of
 unfoldable pub stepped : Bool → ℕ → Sight → ℕ → Contact
-stepped held run Hidden d = record { held = held; run = run; changed = false }
+stepped held run Hidden d = record { held = held; run = run; changed = false; settling = ltb 0 run }
 stepped held run Open d = sampled held run false d
 stepped held run Closed d = sampled held run true d
+
+unfoldable pub moved : Contact → Moved
+moved x = record { held = x .held; run = x .run; changed = x .changed }
 
 unfoldable pub sightOf : Bool → Bool → Sight
 sightOf hidden closed = Hidden if hidden else (Closed if closed else Open)

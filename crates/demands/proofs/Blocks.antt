@@ -2,17 +2,19 @@
 --
 --    blocks-only         the demand allows one outcome of a block alone
 --    singles-leads, singles-stopped    the looks of a block that are done, and the one that is declined
---    wide-demand1        DEMAND 1 WITH ITS EXCEPTION, of a machine that meets it for calls and whose blocks meet theirs
+--    block-few           they are at most those that it has samples for
+--    wide-demand1        DEMAND 1 WITH ITS EXCEPTIONS, of a machine that meets it for calls and whose blocks meet theirs
 --    spelled-same        after acts the state, the past and the codes fetched are those after the calls that they are spelled
 --    reads-as-looks      so what holds after every list of calls holds after every list of acts
 --    wide-demands        DEMANDS 2 AND 3
 -- Assumes nothing.
 use Prim.Native.Nat.{ℕ, zero, suc, _+_, _*_, _/_, _≤_}
+use native.Mathlib.Decide.{ℕ-discrete}
 use native.Mathlib.Numerals.{add-one}
 use native.Mathlib.Omega.{arith}
 use mathlib.Core.Path.{_≡_, refl, sym, ap, _∙_, subst}
 use mathlib.Core.Logic.{_⊎_, inl, inr}
-use mathlib.Core.Bool.{Bool, true, false, cond}
+use mathlib.Core.Bool.{true, false, cond}
 use mathlib.Core.List.{List, [], _∷_, _++_}
 use lib.ListN.{length, take, drop}
 use lib.Seq.{drop-drop}
@@ -28,10 +30,11 @@ use Rattle.sheet.specs.Ledger.{kept, lost, arrivals, unreported}
 use Rattle.state.specs.Typed.{Typed}
 use Rattle.sound.specs.Said.{Said}
 use Rattle.demands.specs.Machine as machine
-use Rattle.demands.specs.Machine.{Call, look, read, held, interrupt, Machine, after, done, happened, fits, seen}
+use Rattle.demands.specs.Machine.{Call, look, write, read, held, interrupt, Machine, after, noted, done, happened, fits, awake, seen}
 use Rattle.demands.specs.Demands.{Demand1, NeverUnsound, Demand2, Demand3, NoSilentLoss, bytesOf}
-use Rattle.demands.specs.Blocks.{Block, Wide, none, oneMore, singles, blockRules, BlockDemand, Act, call, block, Leads, numberOf, Unaltered, Stopped, Demand1Wide}
+use Rattle.demands.specs.Blocks.{Block, Wide, none, oneMore, singles, blockRules, BlockDemand, Act, call, block, Leads, numberOf, Unaltered, Woken, Stopped, Demand1Wide}
 use Rattle.demands.specs.Blocks.{lookeds, fit, afterActs, pastOf, fetched, DemandsWide, looksOf, spelled}
+use Rattle.demands.specs.Sleep.{SleepDemand}
 use Rattle.demands.proofs.Numbers.{first-only}
 
 -- ---- one outcome
@@ -95,13 +98,35 @@ module _ (M : Machine) where
       let b = singles M (length s / 8) σ s in
       by-test (λ t. Leads M (cond t b (none n σ) .done) σ s (cond t b (none n σ) .next)) (eqb n 0) (λ _. singles-leads (length s / 8) σ s) (λ _. refl)
 
+  singles-few : (n : ℕ) (σ : M .State) (s : List ℕ) → singles M n σ s .done ≤ n
+  unfolding singles
+  singles-few zero σ s = omega arith
+  singles-few (suc n) σ s =
+      let one = M .does σ (look (take 8 s)) in
+      let rest = singles M n (one .next) (drop 8 s) in
+      let few = singles-few n (one .next) (drop 8 s) in
+      by-test (λ t. cond t (oneMore rest) (none (one .number) σ) .done ≤ suc n) (eqb (one .number) 0) (λ _. omega arith) (λ _. omega arith)
+
+  given-few : (σ : M .State) (s : List ℕ) (n : ℕ) → given σ s n .done ≤ length s / 8
+  given-few σ s n =
+      let b = singles M (length s / 8) σ s in
+      by-test (λ t. cond t b (none n σ) .done ≤ length s / 8) (eqb n 0) (λ _. singles-few (length s / 8) σ s) (λ _. omega arith)
+
 module _ (W : Wide) (c : Demand1 (W .calls)) (d : BlockDemand W) where
-  excepted : (σ : W .calls .State) (a : Act) → (numberOf W σ a ≡ 0 → ⊥) → Unaltered W σ a ⊎ Stopped W σ a
-  unfolding numberOf Unaltered Stopped
-  excepted σ (call x) h = inl (c .declined σ x h)
+  excepted : (σ : W .calls .State) (a : Act) → (numberOf W σ a ≡ 0 → ⊥) → Unaltered W σ a ⊎ (Woken W σ a ⊎ Stopped W σ a)
+  unfolding numberOf Unaltered Woken Stopped
+  excepted σ (call x) h = go (ℕ-discrete (W .calls .does σ x .number) 27)
+    where
+      go : Dec (W .calls .does σ x .number ≡ 27) → Unaltered W σ (call x) ⊎ (Woken W σ (call x) ⊎ Stopped W σ (call x))
+      go (yes z) = inr (inl (z, c .refused σ x z))
+      go (no z) = inl (c .declined σ x h z)
   excepted σ (block s) h =
-      subst (λ (b : Block (W .calls .State)). (b .number ≡ 0 → ⊥) → ((b .next ≡ σ) × (b .done ≡ 0)) ⊎ (Leads (W .calls) (b .done) σ s (b .next) × (stopping (W .calls) s b ≡ b .number)))
-      (sym (d .gives σ s)) (given-declined (W .calls) σ s (d .refusal σ s)) h
+      go (subst (λ (b : Block (W .calls .State)). (b .number ≡ 0 → ⊥) → ((b .next ≡ σ) × (b .done ≡ 0)) ⊎ (Leads (W .calls) (b .done) σ s (b .next) × (stopping (W .calls) s b ≡ b .number)))
+      (sym (d .gives σ s)) (given-declined (W .calls) σ s (d .refusal σ s)) h)
+    where
+      go : Unaltered W σ (block s) ⊎ Stopped W σ (block s) → Unaltered W σ (block s) ⊎ (Woken W σ (block s) ⊎ Stopped W σ (block s))
+      go (inl x) = inl x
+      go (inr x) = inr (inr x)
 
   pub wide-demand1 : Demand1Wide W
   wide-demand1 = record { calls = c; blocks = d; declined = excepted }
@@ -109,7 +134,7 @@ module _ (W : Wide) (c : Demand1 (W .calls)) (d : BlockDemand W) where
 -- ---- acts as calls
 module _ (M : Machine) where
   done-look : (cs : List Call) (t : List ℕ) → M .does (after M cs) (look t) .number ≡ 0 → looked t ∷ done M cs ≡ done M (look t ∷ cs)
-  unfolding done happened
+  unfolding done noted happened
   done-look cs t z = rw z
 
   fetched-look : (cs : List Call) (t : List ℕ) → machine.fetched M cs ≡ machine.fetched M (look t ∷ cs)
@@ -138,6 +163,10 @@ module _ (W : Wide) (d : BlockDemand W) where
   block-leads σ s =
       subst (λ (b : Block (W .calls .State)). Leads (W .calls) (b .done) σ s (b .next)) (sym (d .gives σ s)) (given-leads (W .calls) σ s (d .refusal σ s))
 
+  -- and are at most those that it has samples for
+  pub block-few : (σ : W .calls .State) (s : List ℕ) → W .looks σ s .done ≤ length s / 8
+  block-few σ s = subst (λ (b : Block (W .calls .State)). b .done ≤ length s / 8) (sym (d .gives σ s)) (given-few (W .calls) σ s (d .refusal σ s))
+
   pub spelled-same : (acts : List Act)
       → (afterActs W acts ≡ after (W .calls) (spelled W acts))
       × ((pastOf W acts ≡ done (W .calls) (spelled W acts)) × (fetched W acts ≡ machine.fetched (W .calls) (spelled W acts)))
@@ -148,7 +177,7 @@ module _ (W : Wide) (d : BlockDemand W) where
       let M = W .calls in (
         ap (λ (σ : M .State). M .does σ c .next) (h .0),
         (
-          (λ i. cond (eqb (M .does (h .0 i) c .number) 0) (happened c (h .1 .0 i)) (h .1 .0 i)),
+          (λ i. noted (M .does (h .0 i) c .number) c (h .1 .0 i)),
           (λ i. cond (eqb (M .does (h .0 i) c .number) 0) (machine.fetchedBy c (M .does (h .0 i) c .buffer) (h .1 .1 i)) (h .1 .1 i)),
         ),
       )
@@ -174,8 +203,8 @@ module _ (W : Wide) (d : BlockDemand W) where
       (subst (λ (past : Past). P (after (W .calls) (spelled W acts)) past (fetched W acts)) (sym (e .1 .0))
       (subst (P (after (W .calls) (spelled W acts)) (done (W .calls) (spelled W acts))) (sym (e .1 .1)) (h (spelled W acts) (spelled-fit acts t))))
 
-  pub wide-demands : NeverUnsound (W .calls) → Demand2 (W .calls) → Demand3 (W .calls) → NoSilentLoss (W .calls) → DemandsWide W
-  wide-demands u two three loss =
+  pub wide-demands : NeverUnsound (W .calls) → Demand2 (W .calls) → Demand3 (W .calls) → NoSilentLoss (W .calls) → SleepDemand (W .calls) → DemandsWide W
+  wide-demands u two three loss sleep =
       let M = W .calls in
       record {
         never = reads-as-looks (λ σ past codes. Said (M .parts σ)) (u .never);
@@ -183,8 +212,11 @@ module _ (W : Wide) (d : BlockDemand W) where
         keys = reads-as-looks (λ σ past codes. (row col : ℕ) → row ≤ 7 → col ≤ 12 → M .does σ (held row col) .answer ≡ sheet.held (13 * row + col) past) (two .keys);
         line = reads-as-looks (λ σ past codes. M .does σ interrupt .answer ≡ sheet.line past) (two .line);
         ledger = reads-as-looks (λ σ past codes. codes ++ seen M σ ≡ kept (arrivals past)) (three .ledger);
-        progress = reads-as-looks (λ σ past codes. M .does σ (read 0x10 (0 ∷ [])) .buffer ≡ 0x7F ∷ [] → codes ≡ kept (arrivals past)) (three .progress);
+        progress = reads-as-looks (λ σ past codes. M .does (awake M σ) (read 0x10 (0 ∷ [])) .buffer ≡ 0x7F ∷ [] → codes ≡ kept (arrivals past)) (three .progress);
         replay = reads-as-looks (λ σ past codes. lost (arrivals past) ≡ [] → (row col : ℕ) → row ≤ 7 → col ≤ 12
             → replayed (13 * row + col) false (codes ++ seen M σ) ≡ M .does σ (held row col) .answer) (three .replay);
-        told = reads-as-looks (λ σ past codes. all (bit 3) (M .does σ (read 0x06 (0 ∷ [])) .buffer) ≡ some (unreported past)) (loss .told);
+        told = reads-as-looks (λ σ past codes. all (bit 3) (M .does (awake M σ) (read 0x06 (0 ∷ [])) .buffer) ≡ some (unreported past)) (loss .told);
+        sleep = reads-as-looks (λ σ past codes. (a : ℕ) (bytes : List ℕ)
+            → (eqb (M .does σ (read a bytes) .number) 27 ≡ sheet.asleep past) × (eqb (M .does σ (write a bytes) .number) 27 ≡ sheet.asleep past))
+            (λ cs t a bytes. (sleep .reads cs t a bytes, sleep .writes cs t a bytes));
       }

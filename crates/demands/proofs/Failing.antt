@@ -6,6 +6,8 @@
 --    ProgressWrong found wanted    the codes fetched, once EVTCODE gives 7F        no-progress
 --    LossWrong                     RELINT, once a change was lost                  no-report
 --    LineWrong found               the interrupt line                              no-line
+--    SleepWrong a found            27, for a read of a byte at a                   no-sleep
+--    CountWrong found wanted       the count of quiet looks                        no-count
 --    DrivenWrong found wanted      the pins that are driven                        no-driven
 --    differ                        two lists of numbers that differ are not the same
 --
@@ -22,9 +24,10 @@ use Rattle.words.specs.Words.{all, some, bit}
 use Rattle.words.proofs.Laws.{true-false, and-both}
 use Rattle.sheet.specs.Sheet as sheet
 use Rattle.sheet.specs.Ledger.{kept, arrivals, unreported}
-use Rattle.demands.specs.Machine.{Call, read, held, interrupt, Machine, after, done, fits, fetched, seen}
+use Rattle.demands.specs.Machine.{Call, read, held, interrupt, Machine, after, done, fits, fetched, awake, seen}
 use Rattle.demands.specs.Demands.{Demand2, Demand3, NoSilentLoss, bytesOf}
 use Rattle.demands.specs.Pins.{Pinned, DriveDemand2}
+use Rattle.demands.specs.Sleep.{SleepDemand}
 use Rattle.demands.specs.Sessions.{same}
 
 same-refl : (l : List ℕ) → same l l ≡ true
@@ -68,14 +71,14 @@ module _ (M : Machine) (cs : List Call) where
   -- a byte of EVTCODE is the empty mark; what was fetched, and what the history demands
   abbrev pub ProgressWrong : List ℕ → List ℕ → Type 0
   ProgressWrong found wanted =
-      (all fits cs ≡ true) × (M .does (after M cs) (read 0x10 (0 ∷ [])) .buffer ≡ 0x7F ∷ []) × (fetched M cs ≡ found) × (kept (arrivals (done M cs)) ≡ wanted) × (same found wanted ≡ false)
+      (all fits cs ≡ true) × (M .does (awake M (after M cs)) (read 0x10 (0 ∷ [])) .buffer ≡ 0x7F ∷ []) × (fetched M cs ≡ found) × (kept (arrivals (done M cs)) ≡ wanted) × (same found wanted ≡ false)
 
   pub no-progress : (found wanted : List ℕ) → ProgressWrong found wanted → Demand3 M → ⊥
   no-progress found wanted w d = differ found wanted (w .4) (sym (w .2) ∙ d .progress cs (w .0) (w .1) ∙ w .3)
 
   -- RELINT is not set, though a loss is unreported
   abbrev pub LossWrong : Type 0
-  LossWrong = (all fits cs ≡ true) × (all (bit 3) (M .does (after M cs) (read 0x06 (0 ∷ [])) .buffer) ≡ false) × (some (unreported (done M cs)) ≡ true)
+  LossWrong = (all fits cs ≡ true) × (all (bit 3) (M .does (awake M (after M cs)) (read 0x06 (0 ∷ [])) .buffer) ≡ false) × (some (unreported (done M cs)) ≡ true)
 
   pub no-report : LossWrong → NoSilentLoss M → ⊥
   no-report w d = true-false (sym (w .2) ∙ sym (d .told cs (w .0)) ∙ w .1)
@@ -86,6 +89,20 @@ module _ (M : Machine) (cs : List Call) where
 
   pub no-line : (found : Bool) → LineWrong found → Demand2 M → ⊥
   no-line found w d = opposite-not found (sym (w .1) ∙ d .line cs (w .0) ∙ w .2)
+
+  -- whether a read of one byte is declined because the panel sleeps
+  abbrev pub SleepWrong : ℕ → Bool → Type 0
+  SleepWrong a found = (all fits cs ≡ true) × (eqb (M .does (after M cs) (read a (0 ∷ [])) .number) 27 ≡ found) × (sheet.asleep (done M cs) ≡ not found)
+
+  pub no-sleep : (a : ℕ) (found : Bool) → SleepWrong a found → SleepDemand M → ⊥
+  no-sleep a found w d = opposite-not found (sym (w .1) ∙ d .reads cs (w .0) a (0 ∷ []) ∙ w .2)
+
+  -- how many quiet looks there were in a row
+  abbrev pub CountWrong : ℕ → ℕ → Type 0
+  CountWrong found wanted = (all fits cs ≡ true) × (M .parts (after M cs) .quiet ≡ found) × (sheet.quiet (done M cs) ≡ wanted) × (eqb found wanted ≡ false)
+
+  pub no-count : (found wanted : ℕ) → CountWrong found wanted → SleepDemand M → ⊥
+  no-count found wanted w d = eqb-false found wanted (w .3) (sym (w .1) ∙ d .count cs (w .0) ∙ w .2)
 
 module _ (P : Pinned) (cs : List Call) where
   -- the pins that are driven, as bits

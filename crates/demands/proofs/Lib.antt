@@ -6,12 +6,14 @@ pub mod Bytes
 pub mod Simulation
 pub mod Answers
 pub mod Sound
+pub mod Sleep
 pub mod Reached
 pub mod Observed
 pub mod Numbers
 pub mod Blocks
 pub mod Rows
 pub mod Meets
+pub mod MeetsSleep
 pub mod MeetsBlocks
 pub mod MeetsPins
 pub mod SparePins
@@ -27,4 +29,5 @@ pub mod Retired
 pub mod Hidden
 pub mod RefutedHidden
 pub mod RefutedPins
+pub mod RefutedSleep
 pub mod Fetched

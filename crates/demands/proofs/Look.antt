@@ -3,24 +3,31 @@
 --    contact-shown    the module's step of a key's contact is the sheet's rule over its history
 --    changes-shown    the changes of the look are the sheet's
 --    queue-shown      so is the queue once they are put
+--    calm-shown       the look is quiet exactly when the sheet says so
+--    sleep-shown      the count and the sleep are the sheet's
 --    look-shown       THE LOOK
 -- Assumes nothing.
-use Prim.Native.Nat.{ℕ, zero, suc, _≤_, _<_}
+use Prim.Native.Nat.{ℕ, zero, suc, _+_, _≤_, _<_, min}
 use native.Mathlib.Nat.{le-refl}
 use native.Mathlib.Omega.{arith}
 use mathlib.Core.Path.{_≡_, refl, sym, ap, _∙_}
-use mathlib.Core.Bool.{Bool, true, false, cond, _||_, or-true, or-false, and-true, and-false}
+use mathlib.Core.Bool.{Bool, true, false, cond, not, _&&_, _||_, or-true, or-false, and-true, and-false}
 use mathlib.Core.List.{List, [], _∷_}
+use lib.Dec.{eqb}
 use Rattle.words.specs.Words.{_if_, _else_, among, some, table}
+use Rattle.words.proofs.Lists.{by-test}
 use Rattle.words.proofs.Tables.{table-at, table-same}
 use Rattle.keys.specs.Keys.{code, sample}
 use Rattle.contact.specs.declared.Contact.{Contact}
-use Rattle.sheet.specs.Sheet.{Past, looked, bounce, size, mask, history, held, changed, change, changesBelow, changes, waiting, relint, marks, rsint, rklint, keptAt, pinSamples, newest, pending, porirq}
+use Rattle.sheet.specs.Sheet.{Past, looked, bounce, size, mask, history, held, changed, change, changesBelow, changes, waiting, relint, marks, rsint, rklint, keptAt, pinSamples, newest, pending, porirq, settlingBelow, calm, quiet, asleep}
 use Rattle.sheet.proofs.Contacts.{contactOf, contact-right}
 use Rattle.sheet.proofs.Facts.{waiting-most}
+use Rattle.sheet.proofs.Sleep.{quiet-sleeps, look-counts}
 use Rattle.state.specs.declared.Module.{Module}
-use Rattle.state.specs.Module.{Queue, queueOf, withQueue, forgotten}
+use Rattle.state.specs.Module.{Queue, Sleep, queueOf, sleep, sleepOf, withQueue, forgotten}
 use Rattle.state.specs.Queue.{putAll}
+use Rattle.state.specs.Sleep.{counted}
+use Rattle.state.proofs.Counted.{counted-sleeps}
 use Rattle.scan.specs.Scan as scan
 use Rattle.scan.proofs.Laws.{looked-noticed}
 use Rattle.demands.specs.Shown.{run, pinsShown, shown}
@@ -58,9 +65,30 @@ module _ (s : List ℕ) (past : Past) where
       ap (λ (q : Queue). putAll q (changes s past)) (sym (came-few (waiting past) (relint past) (waiting-most past)))
       ∙ putAll-came (waiting past) (changes s past) (relint past)
 
+  settles-shown : (n : ℕ) → n ≤ 104 → scan.settlesBelow (shown past) s n ≡ settlingBelow n (looked s ∷ past)
+  unfolding scan.settlesBelow settlingBelow contactOf
+  settles-shown zero h = refl
+  settles-shown (suc k) h = λ i. settles-shown k (omega arith) i || contact-shown k h i .settling
+
+  calm-shown : scan.calm (shown past) s ≡ calm s past
+  unfolding scan.calm calm
+  calm-shown = λ i. not (some (changes-shown i)) && not (settles-shown 104 (le-refl 104) i)
+
+  count-shown : counted (sleepOf (shown past)) (calm s past) .quiet ≡ quiet (looked s ∷ past)
+  unfolding counted shown
+  count-shown = by-test (λ t. counted (sleepOf (shown past)) t .quiet ≡ cond t (min 255 (quiet past + 1)) 0) (calm s past) (λ _. refl) (λ _. refl) ∙ sym (look-counts s past)
+
+  sleep-shown : counted (sleepOf (shown past)) (scan.calm (shown past) s) ≡ sleepOf (shown (looked s ∷ past))
+  unfolding shown
+  sleep-shown =
+      let z = counted (sleepOf (shown past)) (calm s past) in
+      let asleep-too : z .asleep ≡ asleep (looked s ∷ past) =
+      counted-sleeps (sleepOf (shown past)) (calm s past) ∙ ap (λ (n : ℕ). eqb n 255) count-shown ∙ sym (quiet-sleeps (looked s ∷ past)) in
+      ap (counted (sleepOf (shown past))) calm-shown ∙ (λ i. sleep (count-shown i) (asleep-too i))
+
   -- the module that the sheet wrote down, with these parts for its own
-  parts : List Bool → List ℕ → Queue → Bool → Bool → List Bool → Module
-  parts h r q rs rk seen =
+  parts : List Bool → List ℕ → Queue → Bool → Bool → List Bool → Sleep → Module
+  parts h r q rs rk seen z =
       record {
         held = h;
         run = r;
@@ -74,6 +102,8 @@ module _ (s : List ℕ) (past : Past) where
         relint = q .relint;
         porirq = porirq past;
         seen = seen;
+        quiet = z .quiet;
+        asleep = z .asleep;
         pins = pinsShown past;
       }
 
@@ -83,10 +113,10 @@ module _ (s : List ℕ) (past : Past) where
       ≡ shown (looked s ∷ past)
   unfolding scan.noticed scan.contacts shown pinsShown parts bounce size mask porirq rsint rklint marks keptAt pinSamples newest pending among table forgotten
   look-made true e =
-      rw (e, or-true (rsint past), and-true (rsint past)) (λ i. parts (held-table i) (run-table i) (queue-shown i) true (rklint past || rsint past) forgotten)
+      rw (e, or-true (rsint past), and-true (rsint past)) (λ i. parts (held-table i) (run-table i) (queue-shown i) true (rklint past || rsint past) forgotten (sleep-shown i))
   look-made false e =
       rw (e, or-false (rsint past), and-false (rsint past), or-false (rklint past))
-      (λ i. parts (held-table i) (run-table i) (queue-shown i) (rsint past) (rklint past) (table (λ n. among n (marks past)) 4))
+      (λ i. parts (held-table i) (run-table i) (queue-shown i) (rsint past) (rklint past) (table (λ n. among n (marks past)) 4) (sleep-shown i))
 
   pub look-shown : scan.looked (shown past) s ≡ shown (looked s ∷ past)
   look-shown =

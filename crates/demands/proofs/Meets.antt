@@ -23,7 +23,7 @@ use Rattle.state.specs.declared.Module.{Module}
 use Rattle.demands.specs.Machine.{Call, after, done, fits, fetched, seen}
 use Rattle.demands.specs.Demands.{Demand1, NeverUnsound, Demand2, Demand3, NoSilentLoss}
 use Rattle.demands.specs.Ours.{ours}
-use Rattle.demands.proofs.Rows.{numbers-exact, declined-alters-nothing}
+use Rattle.demands.proofs.Rows.{numbers-exact, declined-alters-nothing, refused-wakes}
 use Rattle.demands.proofs.Reached.{reached-said}
 use Rattle.demands.proofs.Observed.{bytes-observed, held-observed, line-observed, fetched-taken, seen-waiting, none-waits, relint-observed}
 
@@ -34,7 +34,7 @@ ours-parts m = refl
 -- "1. The module takes every call, with every value, and finishes it. What it can't do it declines with a number from our list,
 -- and a declined call alters neither the module nor the caller's buffer."
 pub ours-demand1 : Demand1 ours
-ours-demand1 = record { exact = numbers-exact; declined = declined-alters-nothing }
+ours-demand1 = record { exact = numbers-exact; declined = declined-alters-nothing; refused = refused-wakes }
 
 -- "Number 8 is given .. never for a state reached by calls from reset."
 pub ours-never-unsound : NeverUnsound ours

@@ -1,8 +1,9 @@
 -- OUR BLOCKS MEET THE DEMANDS. The demands are in specs/Blocks.antt, ours in specs/Ours.antt.
 --
 --    ours-blocks         a block gives what single looks give
---    ours-demand1-wide   DEMAND 1 WITH ITS EXCEPTION
+--    ours-demand1-wide   DEMAND 1 WITH ITS EXCEPTIONS
 --    ours-demands-wide   DEMANDS 2 AND 3, over every list of calls and blocks
+--    ours-never-27-twice-wide    after 27 no access gives it again before 255 looks
 --    block-number        A BLOCK'S NUMBER BY THE TABLE: 8, then 1, then 2
 --    carries-acts        a session with blocks carried: it plays to its state
 -- Assumes nothing.
@@ -33,6 +34,7 @@ use Rattle.calls.specs.Calls.{lookLines, lookNumber, outcome, lookCall}
 use Rattle.calls.specs.Walk.{Judged}
 use Rattle.calls.proofs.Kept.{looked-kept}
 use Rattle.demands.specs.Table.{_⇒_, First, Unsound, HighBits}
+use Rattle.demands.specs.Sleep.{NotTwiceWide}
 use Rattle.demands.specs.Blocks.{Block, none, oneMore, singles, NotEights, blockRules, BlockDemand, Act, Demand1Wide, afterActs, DemandsWide, spelled}
 use Rattle.demands.specs.Carrying.{typed, recorded}
 use Rattle.demands.specs.Ours.{changing, called, ours, blocking, wide}
@@ -41,6 +43,7 @@ use Rattle.demands.proofs.Numbers as rows
 use Rattle.demands.proofs.Rows.{decide-high, unsound-decided}
 use Rattle.demands.proofs.Blocks.{wide-demand1, wide-demands, spelled-same}
 use Rattle.demands.proofs.Carrying.{ours-carries-sessions}
+use Rattle.demands.proofs.MeetsSleep.{ours-sleeps, never-27-twice-wide}
 use Rattle.demands.proofs.Meets.{ours-demand1, ours-never-unsound, ours-demand2, ours-demand3, ours-no-silent-loss}
 
 -- ---- what single looks give
@@ -74,7 +77,11 @@ ours-demand1-wide = wide-demand1 wide ours-demand1 ours-blocks
 
 -- "Demand 3 reads a block as its single looks."
 pub ours-demands-wide : DemandsWide wide
-ours-demands-wide = wide-demands wide ours-blocks ours-never-unsound ours-demand2 ours-demand3 ours-no-silent-loss
+ours-demands-wide = wide-demands wide ours-blocks ours-never-unsound ours-demand2 ours-demand3 ours-no-silent-loss ours-sleeps
+
+-- E7: "An access is declined once"
+pub ours-never-27-twice-wide : NotTwiceWide wide
+ours-never-27-twice-wide = never-27-twice-wide wide ours-blocks ours-demands-wide
 
 -- ---- a block's number
 abbrev narrow : ℕ → Bool

@@ -5,7 +5,7 @@
 --    lines-first                 THE GENERAL LAW: the number of the lines is that of the first row that holds
 --    first-only                  and no other number is
 --    refused                     what a Bool decides that is denied
---    decide-eq, decide-ne, decide-lt    what the comparisons decide
+--    decide-true, decide-eq, decide-ne, decide-lt    what a flag and the comparisons decide
 -- Assumes nothing.
 use Prim.Native.Nat.{ℕ, _<_}
 use mathlib.Core.Path.{_≡_, refl, sym, _∙_}
@@ -50,6 +50,9 @@ first-only ((P ⇒ m) ∷ rs) n k (inr g) (inr h) = first-only rs n k (g .1) (h 
 -- ---- plain tests
 pub refused : (b : Bool) {P : Type 0} → (b ≡ false → P) → (b ≡ true → P → ⊥) → Decides (not b) P
 refused b h f = record { holds = λ e. h (not-true b e); fails = λ e. f (not-false b e) }
+
+pub decide-true : (b : Bool) → Decides b (b ≡ true)
+decide-true b = record { holds = λ e. e; fails = λ e h. true-false (sym h ∙ e) }
 
 pub decide-eq : (n m : ℕ) → Decides (eqb n m) (n ≡ m)
 decide-eq n m = record { holds = eqb-true n m; fails = eqb-false n m }

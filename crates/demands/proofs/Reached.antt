@@ -1,6 +1,7 @@
 -- OUR CALLS AND THE SHEET: after every list of calls the module is the one that the sheet writes down for what has happened.
 --
---    read-run, write-run          an access that is done has no address that can't be accessed so; write-fit: and no bad byte for KBDSIZE
+--    read-some, write-some        an access that is done has bytes
+--    read-run, write-run          and no address that can't be accessed so; write-fit: and no bad byte for KBDSIZE
 --    writes-after, reads-after    the bytes of an access, one by one
 --    bytes-after                  the bytes that a read gives
 --    called-after                 one call
@@ -13,32 +14,34 @@
 use Prim.Native.Nat.{ℕ, zero, suc, _<_}
 use native.Mathlib.Omega.{arith}
 use mathlib.Core.Path.{_≡_, refl, sym, ap, _∙_, subst}
-use mathlib.Core.Bool.{Bool, true, false, cond, not, _&&_}
-use mathlib.Core.List.{List, [], _∷_}
-use borrow.Author.Tests.{le-leb, ltb-true, eqb-true, not-false}
+use mathlib.Core.Bool.{Bool, true, cond, not, _&&_}
+use mathlib.Core.List.{List, [], _∷_, _++_}
+use borrow.Author.Tests.{le-leb, ltb-true, ne-eqb, eqb-false, not-false}
 use lib.Dec.{eqb, leb, ltb}
 use lib.ListN.{length}
 use Rattle.words.specs.Words.{all}
 use Rattle.words.proofs.Laws.{and-left, and-right, and-both, all-first, all-rest}
-use Rattle.numbers.specs.Numbers.{Line, _gives_, noBytes, tooMany, notAllowed, badSize, unsound}
-use Rattle.numbers.proofs.Laws.{declining, line-false}
+use Rattle.words.proofs.Lists.{by-test}
+use Rattle.numbers.specs.Numbers.{Line, _gives_, numberOf, noBytes, tooMany, notAllowed, badSize, unsound, sleeping}
+use Rattle.numbers.proofs.Laws.{declining, line-false, lacks, never-given}
 use Rattle.registers.specs.declared.Access.the-variants.{Read, Write}
 use Rattle.registers.specs.declared.Register.{Register}
 use Rattle.registers.specs.Registers.{registerAt, allowed}
 use Rattle.registers.specs.Runs.{next, addresses, runAllowed}
-use Rattle.judge.specs.Lines.{byteFits, sizesFit, accessLines, readLines, writeLines}
+use Rattle.judge.specs.Lines.{byteFits, sizesFit, sampleLines, accessLines, readLines, writeLines, keyLines, pinLines}
 use Rattle.sheet.specs.Sheet as sheet
-use Rattle.sheet.specs.Sheet.{Past, sampled, looked, wrote, got, beside}
+use Rattle.sheet.specs.Sheet.{Past, wrote, got}
 use Rattle.state.specs.declared.Module.{Module}
+use Rattle.state.specs.Module.{woken}
 use Rattle.state.specs.Typed.{Typed}
 use Rattle.sound.specs.Sound.{sound}
 use Rattle.sound.specs.Said.{Said}
 use Rattle.sound.proofs.Exactly.{sound-said}
 use Rattle.scan.specs.Scan as scan
-use Rattle.access.specs.Bytes.{byteOf}
+use Rattle.access.specs.Bytes.{written, byteOf, readOut}
 use Rattle.access.specs.Accesses as access
-use Rattle.calls.specs.Calls.{lookNumber, writeNumber, readNumber, pinsNumber, sampling, outcome, answer, resetCall, lookCall, writeCall, readCall, heldCall, interruptCall, pinsCall}
-use Rattle.demands.specs.Machine.{Call, reset, look, write, read, held, interrupt, pins, wrotes, gots, happened, done, fits}
+use Rattle.calls.specs.Calls.{lookLines, heldLines, lookNumber, accessNumber, writeNumber, readNumber, heldNumber, interruptNumber, pinsNumber, sampling, outcome, accessed, answer, resetCall, lookCall, writeCall, readCall, heldCall, interruptCall, pinsCall}
+use Rattle.demands.specs.Machine.{Call, reset, look, write, read, held, interrupt, pins, wrotes, gots, happened, noted, done, fits}
 use Rattle.demands.specs.Machine as machine
 use Rattle.demands.specs.Demands.{bytesOf}
 use Rattle.demands.specs.Ours.{changing, asking, called, ours}
@@ -46,32 +49,54 @@ use Rattle.demands.specs.Shown.{after, shown, fitting}
 use Rattle.demands.proofs.Simulation.{as-the-sheet-says}
 use Rattle.demands.proofs.Answers.{byte-shown}
 use Rattle.demands.proofs.Sound.{shown-sound, shown-typed}
+use Rattle.demands.proofs.Sleep.{wrote-woken, reads-woken, bytes-woken, noted-cases}
 
--- ---- the addresses of an access that is done
+-- ---- an access that is done
+-- the lines before those of its own
+abbrev judged : Module → List Line
+judged m = not (sound m) gives unsound ∷ m .asleep gives sleeping ∷ []
+
 -- the lines before that of the addresses
 abbrev counted : Module → ℕ → List Line
-counted m n = not (sound m) gives unsound ∷ eqb n 0 gives noBytes ∷ ltb 32 n gives tooMany ∷ []
+counted m n = judged m ++ (eqb n 0 gives noBytes ∷ ltb 32 n gives tooMany ∷ [])
+
+read-some : (m : Module) (a n : ℕ) → readNumber m a n ≡ 0 → n ≡ 0 → ⊥
+unfolding readNumber accessNumber readLines accessLines declining
+read-some m a n h = eqb-false n 0 (line-false (judged m) (eqb n 0) noBytes (ltb 32 n gives tooMany ∷ not (runAllowed Read a n) gives notAllowed ∷ []) refl h)
+
+write-some : (m : Module) (a : ℕ) (bs : List ℕ) → writeNumber m a bs ≡ 0 → length bs ≡ 0 → ⊥
+unfolding writeNumber accessNumber writeLines accessLines declining
+write-some m a bs h =
+    let n = length bs in
+    eqb-false n 0 (line-false (judged m) (eqb n 0) noBytes (ltb 32 n gives tooMany ∷ not (runAllowed Write a n) gives notAllowed ∷ not (sizesFit a bs) gives badSize ∷ []) refl h)
 
 pub read-run : (m : Module) (a n : ℕ) → readNumber m a n ≡ 0 → runAllowed Read a n ≡ true
-unfolding readNumber readLines accessLines declining
+unfolding readNumber accessNumber readLines accessLines declining
 read-run m a n h = not-false (runAllowed Read a n) (line-false (counted m n) (not (runAllowed Read a n)) notAllowed [] refl h)
 
 pub write-run : (m : Module) (a : ℕ) (bs : List ℕ) → writeNumber m a bs ≡ 0 → runAllowed Write a (length bs) ≡ true
-unfolding writeNumber writeLines accessLines declining
+unfolding writeNumber accessNumber writeLines accessLines declining
 write-run m a bs h =
     let n = length bs in
     not-false (runAllowed Write a n) (line-false (counted m n) (not (runAllowed Write a n)) notAllowed (not (sizesFit a bs) gives badSize ∷ []) refl h)
 
 -- ---- the bytes of an access
-writes-after : (a : ℕ) (bs : List ℕ) (past : Past) → access.wrote (after past) a bs ≡ after (wrotes a bs past)
+-- the panel is awake after each of them: of at least one it doesn't matter after which
+writes-after : (a : ℕ) (bs : List ℕ) (past : Past) → (length bs ≡ 0 → ⊥) → woken (access.wrote (after past) a bs) ≡ after (wrotes a bs past)
 unfolding access.wrote wrotes after
-writes-after a [] past = refl
-writes-after a (b ∷ bs) past = writes-after (next a) bs (wrote (registerAt a) b ∷ past)
+writes-after a [] past h = absurd (h refl)
+writes-after a (b ∷ []) past h = refl
+writes-after a (b ∷ c ∷ bs) past h =
+    let m = written (after past) (registerAt a) b in
+    sym (ap woken (wrote-woken m (next a) (c ∷ bs))) ∙ writes-after (next a) (c ∷ bs) (wrote (registerAt a) b ∷ past) (λ z. omega arith)
 
-reads-after : (a n : ℕ) (past : Past) → access.readAll (after past) a n ≡ after (gots a n past)
+reads-after : (a n : ℕ) (past : Past) → (n ≡ 0 → ⊥) → woken (access.readAll (after past) a n) ≡ after (gots a n past)
 unfolding access.readAll gots after
-reads-after a zero past = refl
-reads-after a (suc n) past = reads-after (next a) n (got (registerAt a) ∷ past)
+reads-after a zero past h = absurd (h refl)
+reads-after a (suc zero) past h = refl
+reads-after a (suc (suc n)) past h =
+    let m = readOut (after past) (registerAt a) in
+    sym (ap woken (reads-woken m (next a) (suc n))) ∙ reads-after (next a) (suc n) (got (registerAt a) ∷ past) (λ z. omega arith)
 
 -- of a run that can be read
 pub bytes-after : (a n : ℕ) (past : Past) → runAllowed Read a n ≡ true → access.bytesRead (after past) a n ≡ bytesOf a n past
@@ -79,35 +104,49 @@ unfolding access.bytesRead bytesOf after runAllowed addresses allowed
 bytes-after a zero past e = refl
 bytes-after a (suc n) past e =
     let can : ℕ → Bool = λ b. allowed Read (registerAt b) in
-    let byte : byteOf (after past) (registerAt a) ≡ sheet.byteOf (registerAt a) past =
-    ap (λ (m : Module). byteOf m (registerAt a)) (as-the-sheet-says past) ∙ byte-shown (registerAt a) past (all-first can a (addresses (next a) n) e) in
-    λ i. byte i ∷ bytes-after (next a) n (got (registerAt a) ∷ past) (all-rest can a (addresses (next a) n) e) i
+    let r = registerAt a in
+    let byte : byteOf (after past) r ≡ sheet.byteOf r past =
+    ap (λ (m : Module). byteOf m r) (as-the-sheet-says past) ∙ byte-shown r past (all-first can a (addresses (next a) n) e) in
+    let rest : access.bytesRead (readOut (after past) r) (next a) n ≡ bytesOf (next a) n (got r ∷ past) =
+    sym (bytes-woken (readOut (after past) r) (next a) n) ∙ bytes-after (next a) n (got r ∷ past) (all-rest can a (addresses (next a) n) e) in
+    λ i. byte i ∷ rest i
 
 -- ---- one call
--- done or declined, the module and the past go the same way
-same-way : (b : Bool) (x m : Module) (y past : Past) → x ≡ after y → m ≡ after past → cond b x m ≡ after (cond b y past)
-same-way true x m y past e f = e
-same-way false x m y past e f = f
+module _ (m : Module) (past : Past) (e : m ≡ after past) (c : Call) where
+  -- done, refused or declined otherwise, the module and the past go the same way
+  access-way : (x : Module) (n : ℕ) → (n ≡ 0 → woken x ≡ after (happened c past)) → accessed m x n .after ≡ after (noted n c past)
+  unfolding accessed after
+  access-way x n h =
+      noted-cases (λ p. accessed m x n .after ≡ after p) n c past (λ z. rw z (h z)) (λ z. rw z (ap woken e)) (λ z y. rw (ne-eqb n 0 z, ne-eqb n 27 y) e)
 
--- a question adds nothing
-no-matter : (b : Bool) (past : Past) → after past ≡ after (cond b past past)
-no-matter true past = refl
-no-matter false past = refl
+  -- so do they if no line gives 27
+  other-way : (x : Module) (lines : List Line) → lacks sleeping lines ≡ true → x ≡ after (happened c past)
+      → outcome m x (numberOf lines) .after ≡ after (noted (numberOf lines) c past)
+  unfolding outcome noted
+  other-way x lines o h =
+      let n = numberOf lines in
+      rw (ne-eqb n 27 (never-given sleeping lines o)) (by-test (λ t. cond t x m ≡ after (cond t (happened c past) past)) (eqb n 0) (λ _. h) (λ _. e))
+
+  -- and a question adds nothing
+  asked-way : (lines : List Line) → lacks sleeping lines ≡ true → m ≡ after (happened c past) → m ≡ after (noted (numberOf lines) c past)
+  unfolding outcome
+  asked-way lines o h = sym (by-test (λ t. cond t m m ≡ m) (eqb (numberOf lines) 0) (λ _. refl) (λ _. refl)) ∙ other-way m lines o h
 
 module _ (m : Module) (past : Past) (e : m ≡ after past) where
-  called-after : (c : Call) → called m c .next ≡ after (cond (eqb (called m c .number) 0) (happened c past) past)
-  unfolding called changing asking resetCall lookCall writeCall readCall heldCall interruptCall pinsCall outcome answer happened after
+  called-after : (c : Call) → called m c .next ≡ after (noted (called m c .number) c past)
+  unfolding called changing asking resetCall lookCall writeCall readCall heldCall interruptCall pinsCall outcome accessed answer happened noted after lookNumber lookLines sampleLines heldNumber heldLines keyLines interruptNumber pinsNumber pinLines lacks
   called-after reset = refl
-  called-after (look s) = same-way (eqb (lookNumber m s) 0) (scan.looked m s) m (looked s ∷ past) past (ap (λ (x : Module). scan.looked x s) e) e
+  called-after (look s) = other-way m past e (look s) (scan.looked m s) (lookLines m s) refl (ap (λ (x : Module). scan.looked x s) e)
   called-after (write a bs) =
-      same-way (eqb (writeNumber m a bs) 0) (access.wrote m a bs) m (wrotes a bs past) past
-      (ap (λ (x : Module). access.wrote x a bs) e ∙ writes-after a bs past) e
+      access-way m past e (write a bs) (access.wrote m a bs) (writeNumber m a bs)
+      (λ z. ap (λ (x : Module). woken (access.wrote x a bs)) e ∙ writes-after a bs past (write-some m a bs z))
   called-after (read a out) =
-      same-way (eqb (readNumber m a (length out)) 0) (access.readAll m a (length out)) m (gots a (length out) past) past
-      (ap (λ (x : Module). access.readAll x a (length out)) e ∙ reads-after a (length out) past) e
-  called-after (held row col) = e ∙ no-matter (eqb (called m (held row col) .number) 0) past
-  called-after interrupt = e ∙ no-matter (eqb (called m interrupt .number) 0) past
-  called-after (pins x) = same-way (eqb (pinsNumber m x) 0) (sampling m x) m (beside (sampled x) ∷ past) past (ap (λ (n : Module). sampling n x) e) e
+      let n = length out in
+      access-way m past e (read a out) (access.readAll m a n) (readNumber m a n)
+      (λ z. ap (λ (x : Module). woken (access.readAll x a n)) e ∙ reads-after a n past (read-some m a n z))
+  called-after (held row col) = asked-way m past e (held row col) (heldLines m row col) refl e
+  called-after interrupt = asked-way m past e interrupt (not (sound m) gives unsound ∷ []) refl e
+  called-after (pins x) = other-way m past e (pins x) (sampling m x) (not (sound m) gives unsound ∷ pinLines x) refl (ap (λ (y : Module). sampling y x) e)
 
 -- ---- every list of calls
 pub calls-after : (cs : List Call) → machine.after ours cs ≡ after (done ours cs)
@@ -141,29 +180,27 @@ fitting-writes a (b ∷ bs) past low fit f =
 
 -- a write that is done has no bad byte for KBDSIZE
 pub write-fit : (m : Module) (a : ℕ) (bs : List ℕ) → writeNumber m a bs ≡ 0 → sizesFit a bs ≡ true
-unfolding writeNumber writeLines accessLines declining
+unfolding writeNumber accessNumber writeLines accessLines declining
 write-fit m a bs h =
-    let earlier = not (sound m) gives unsound ∷ accessLines Write a (length bs) in
-    not-false (sizesFit a bs) (line-false earlier (not (sizesFit a bs)) badSize [] refl h)
+    not-false (sizesFit a bs) (line-false (judged m ++ accessLines Write a (length bs)) (not (sizesFit a bs)) badSize [] refl h)
 
-fitting-call : (m : Module) (past : Past) (c : Call) → fits c ≡ true → fitting past ≡ true
-    → (b : Bool) → eqb (called m c .number) 0 ≡ b → fitting (cond b (happened c past) past) ≡ true
-unfolding called changing writeCall outcome fits happened fitting
-fitting-call m past c t f false e = f
-fitting-call m past reset t f true e = refl
-fitting-call m past (look s) t f true e = f
-fitting-call m past (write a bs) t f true e = fitting-writes a bs past t (write-fit m a bs (eqb-true (writeNumber m a bs) 0 e)) f
-fitting-call m past (read a out) t f true e = fitting-reads a (length out) past f
-fitting-call m past (held row col) t f true e = f
-fitting-call m past interrupt t f true e = f
-fitting-call m past (pins x) t f true e = f
+fitting-call : (m : Module) (past : Past) (c : Call) → fits c ≡ true → fitting past ≡ true → called m c .number ≡ 0 → fitting (happened c past) ≡ true
+unfolding called changing writeCall accessed fits happened fitting
+fitting-call m past reset t f z = refl
+fitting-call m past (look s) t f z = f
+fitting-call m past (write a bs) t f z = fitting-writes a bs past t (write-fit m a bs z) f
+fitting-call m past (read a out) t f z = fitting-reads a (length out) past f
+fitting-call m past (held row col) t f z = f
+fitting-call m past interrupt t f z = f
+fitting-call m past (pins x) t f z = f
 
 pub reached-fitting : (cs : List Call) → all fits cs ≡ true → fitting (done ours cs) ≡ true
 unfolding done fitting
 reached-fitting [] t = refl
 reached-fitting (c ∷ cs) t =
     let m = machine.after ours cs in
-    fitting-call m (done ours cs) c (all-first fits c cs t) (reached-fitting cs (all-rest fits c cs t)) (eqb (called m c .number) 0) refl
+    let f = reached-fitting cs (all-rest fits c cs t) in
+    noted-cases (λ p. fitting p ≡ true) (called m c .number) c (done ours cs) (fitting-call m (done ours cs) c (all-first fits c cs t) f) (λ _. f) (λ _ _. f)
 
 -- "Number 8 is given .. never for a state reached by calls from reset."
 pub reached-sound : (cs : List Call) → all fits cs ≡ true → sound (machine.after ours cs) ≡ true

@@ -22,7 +22,7 @@ use Rattle.demands.specs.Machine.{Call, reset, look, write, read, held, 
 use Rattle.demands.specs.Table.{rules}
 use Rattle.demands.specs.Demands.{Demand1, Demand2, Demand3, NoSilentLoss}
 use Rattle.demands.specs.Ours.{called, ours}
-use Rattle.demands.specs.Wrong.{usual, calledBy, declining, blank, stuck, asleep, firstLook, once, inventive, remembering, unchanged, lowering, emptying, trusted, trusting, passing, hasty, forgetful, stingy, silent}
+use Rattle.demands.specs.Wrong.{usual, calledBy, declining, blank, stuck, idle, firstLook, once, inventive, remembering, unchanged, lowering, emptying, trusted, trusting, passing, hasty, forgetful, stingy, silent}
 use Rattle.demands.proofs.Failing.{LedgerWrong, no-ledger, KeyWrong, no-key, BytesWrong, no-bytes, ProgressWrong, no-progress, LossWrong, no-report}
 use Rattle.demands.proofs.Opened.{opened}
 use Rattle.demands.proofs.Numbers.{first-only}
@@ -91,7 +91,7 @@ record Told : Type 0 where
   blank : LedgerWrong blank pressed [] (0x11 ∷ [])
   stuck-bytes : BytesWrong stuck pressed 0x10 (0x7F ∷ []) (0x11 ∷ [])
   stuck : LedgerWrong stuck pressed [] (0x11 ∷ [])
-  asleep : KeyWrong asleep pressed 1 1 false
+  idle : KeyWrong idle pressed 1 1 false
   firstLook : LedgerWrong firstLook second [] (0x11 ∷ [])
   once : LedgerWrong once (rows 0 0 ∷ pressed) (0x11 ∷ []) (0x11 ∷ 0x91 ∷ [])
   inventive : LedgerWrong inventive (rows 0 0 ∷ []) (0x00 ∷ []) []
@@ -118,7 +118,7 @@ told =
       blank = (refl, refl, refl, refl);
       stuck-bytes = (refl, refl, refl, refl);
       stuck = (refl, refl, refl, refl);
-      asleep = (refl, refl, refl);
+      idle = (refl, refl, refl);
       firstLook = (refl, refl, refl, refl);
       once = (refl, refl, refl, refl);
       inventive = (refl, refl, refl, refl);
@@ -159,8 +159,8 @@ pub stuck-refuted : Demand3 stuck → ⊥
 stuck-refuted = no-ledger stuck pressed _ _ (told .stuck)
 
 -- "or whose look does nothing (the history rule, demand 2)"
-pub asleep-refuted : Demand2 asleep → ⊥
-asleep-refuted = no-key asleep pressed 1 1 false (omega arith) (omega arith) (told .asleep)
+pub idle-refuted : Demand2 idle → ⊥
+idle-refuted = no-key idle pressed 1 1 false (omega arith) (omega arith) (told .idle)
 
 -- "one that handles the first look and ignores later ones (demand 3, over all looks)"
 pub first-look-refuted : Demand3 firstLook → ⊥
@@ -191,7 +191,7 @@ passing-refuted = no-bytes passing [] 0x10 _ _ (told .passing)
 pub hasty-refuted : Demand1 hasty → ⊥
 hasty-refuted d =
     let t = told .hasty in
-    let e = d .declined (after hasty pressed) (read 0x10 (replicate 33 0)) (λ z. omega (arith, sym (t .0) ∙ z)) in
+    let e = d .declined (after hasty pressed) (read 0x10 (replicate 33 0)) (λ z. omega (arith, sym (t .0) ∙ z)) (λ z. omega (arith, sym (t .0) ∙ z)) in
     let z : _≡_ {A = ℕ} 0 1 = sym (t .2) ∙ ap (λ (m : Module). m .count) (e .0) ∙ t .1 in
     omega arith
 

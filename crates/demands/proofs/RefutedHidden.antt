@@ -11,12 +11,12 @@ use native.Mathlib.Nat.{le-refl}
 use native.Mathlib.Omega.{arith}
 use native.Mathlib.Decide.{decLt}
 use mathlib.Core.Path.{_≡_, refl, sym, ap, _∙_}
-use mathlib.Core.Bool.{Bool, true, false, _&&_, cond, or-true}
+use mathlib.Core.Bool.{Bool, true, false, not, _&&_, _||_, cond, or-true}
 use mathlib.Core.List.{List, [], _∷_, _++_}
 use lib.ListN.{getD}
 use lib.Dec.{ltb}
 use borrow.Author.Tests.{lt-ltb, le-ltb}
-use Rattle.words.specs.Words.{bit}
+use Rattle.words.specs.Words.{some, bit}
 use Rattle.numbers.specs.Numbers.{numberOf}
 use Rattle.words.proofs.Lists.{by-test}
 use Rattle.words.proofs.Tables.{table-same}
@@ -25,7 +25,8 @@ use Rattle.keys.proofs.Laws.{special-row, special-col, sample-out}
 use Rattle.contact.specs.declared.Contact.{Contact}
 use Rattle.contact.proofs.Laws.{step-rests}
 use Rattle.state.specs.declared.Module.{Module}
-use Rattle.state.specs.Module.{withKeys}
+use Rattle.state.specs.Module.{sleepOf, withKeys, withSleep}
+use Rattle.state.specs.Sleep.{counted}
 use Rattle.sound.specs.Sound.{sound}
 use Rattle.sound.proofs.Laws.{sound-out}
 use Rattle.scan.specs.Scan as scan
@@ -35,7 +36,7 @@ use Rattle.demands.specs.Machine.{Call, reset, look, write, read, held, 
 use Rattle.demands.specs.Demands.{Demand3}
 use Rattle.demands.specs.Ours.{changing, asking, called}
 use Rattle.demands.specs.Wrong.{calledBy}
-use Rattle.demands.specs.WrongHidden.{changesBy, contactsBy, lookedBy, showing, matrix, raw, rawHides, before, heldHides, heldHidesAfter, hiddenOpen, hiddenAgain, outHides, hidesItself, hiddenChanges}
+use Rattle.demands.specs.WrongHidden.{changesBy, settlesBy, contactsBy, lookedBy, showing, matrix, raw, rawHides, before, heldHides, heldHidesAfter, hiddenOpen, hiddenAgain, outHides, hidesItself, hiddenChanges}
 use Rattle.demands.proofs.Failing.{LedgerWrong, no-ledger}
 use Rattle.demands.proofs.Opened.{opened}
 
@@ -50,9 +51,14 @@ changes-by m s (suc k) = λ i. changes-by m s k i ++ one i
         by-test (λ t. scan.contactAt m s k .changed ≡ t → cond t (code k (scan.contactAt m s k .held) ∷ []) [] ≡ cond t (code k (sample s (m .size) k) ∷ []) []) (scan.contactAt m s k .changed)
         (λ e _. ap (λ (b : Bool). code k b ∷ []) (changed-sample m s k e)) (λ _ _. refl) refl
 
+settles-by : (m : Module) (s : List ℕ) (n : ℕ) → settlesBy scan.contactAt m s n ≡ scan.settlesBelow m s n
+unfolding settlesBy scan.settlesBelow
+settles-by m s zero = refl
+settles-by m s (suc k) = ap (λ (b : Bool). b || scan.contactAt m s k .settling) (settles-by m s k)
+
 pub looked-by : (m : Module) (s : List ℕ) → lookedBy scan.contactAt m s ≡ scan.looked m s
-unfolding lookedBy contactsBy scan.looked scan.contacts scan.changes
-looked-by m s = rw (changes-by m s 104)
+unfolding lookedBy contactsBy scan.looked scan.contacts scan.calm scan.changes
+looked-by m s = rw (changes-by m s 104, settles-by m s 104)
 
 -- ---- the calls, newest first
 abbrev rows : ℕ → ℕ → Call
@@ -143,10 +149,16 @@ module _ (m : Module) (s : List ℕ) (ok : sound m ≡ true) where
   below-alike zero l = refl
   below-alike (suc k) l = λ i. below-alike k (omega arith) i ++ cond (raw-alike k (omega arith) i .changed) (code k (raw-alike k (omega arith) i .held) ∷ []) []
 
+  settles-alike : (n : ℕ) → n ≤ 104 → settlesBy (showing raw) m s n ≡ settlesBy scan.contactAt m s n
+  unfolding settlesBy
+  settles-alike zero l = refl
+  settles-alike (suc k) l = λ i. settles-alike k (omega arith) i || raw-alike k (omega arith) i .settling
+
   contacts-alike : contactsBy (showing raw) m s ≡ contactsBy scan.contactAt m s
   unfolding contactsBy
   contacts-alike = λ i.
-      withKeys m (table-same _ _ 104 (λ k h. ap (λ (x : Contact). x .held) (raw-alike k h)) i) (table-same _ _ 104 (λ k h. ap (λ (x : Contact). x .run) (raw-alike k h)) i)
+      withSleep (withKeys m (table-same _ _ 104 (λ k h. ap (λ (x : Contact). x .held) (raw-alike k h)) i) (table-same _ _ 104 (λ k h. ap (λ (x : Contact). x .run) (raw-alike k h)) i))
+      (counted (sleepOf m) (not (some (below-alike 104 (le-refl 104) i)) && not (settles-alike 104 (le-refl 104) i)))
 
   pub raw-looked : lookedBy (showing raw) m s ≡ scan.looked m s
   unfolding lookedBy

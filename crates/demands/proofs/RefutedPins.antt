@@ -82,7 +82,7 @@ size-forgets-refuted = no-bytes sizeForgets _ 0xC6 _ _ (told .sizeForgets)
 pub declined-sample-refuted : Demand1 declinedSample → ⊥
 declined-sample-refuted d =
     let t = told .declinedSample in
-    let e = d .declined (after declinedSample []) (pins 0x80000) (λ z. omega (arith, sym (t .0) ∙ z)) in
+    let e = d .declined (after declinedSample []) (pins 0x80000) (λ z. omega (arith, sym (t .0) ∙ z)) (λ z. omega (arith, sym (t .0) ∙ z)) in
     true-false (sym (t .2) ∙ ap (λ (m : Module). m .pins .sampled) (e .0) ∙ t .1)
 
 -- "a write to its bits is kept but drives nothing until the pin is free"

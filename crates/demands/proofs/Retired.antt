@@ -8,14 +8,13 @@
 use Prim.Native.Nat.{ℕ, _<_}
 use native.Mathlib.Omega.{arith}
 use mathlib.Core.Path.{_≡_, refl, sym, ap, _∙_}
-use mathlib.Core.Bool.{Bool, true, false, not, _||_, or-true}
+use mathlib.Core.Bool.{Bool, true, false, not, _||_}
 use mathlib.Core.List.{List, [], _∷_, _++_}
-use borrow.Author.Tests.{eq-eqb}
-use lib.Dec.{eqb}
-use Rattle.words.specs.Words.{allBelow, among}
+use Rattle.words.specs.Words.{allBelow}
 use Rattle.words.proofs.Laws.{true-false, all-below, below-all}
 use Rattle.words.proofs.Places.{fails-at}
 use Rattle.numbers.specs.Numbers.{Line, _gives_, numberOf}
+use Rattle.numbers.proofs.Laws.{lacks, never-given}
 use Rattle.keys.specs.Keys.{keyIn}
 use Rattle.judge.specs.Lines.{sampleLines, accessLines, readLines, writeLines, keyLines, pinLines}
 use Rattle.state.specs.declared.Module.{Module}
@@ -23,8 +22,8 @@ use Rattle.sound.specs.Sound.{sound}
 use Rattle.sound.proofs.Laws.{sound-out}
 use Rattle.scan.specs.Scan.{contactAt}
 use Rattle.scan.proofs.Laws.{out-rests}
-use Rattle.calls.specs.Calls.{lookLines, heldLines, lookNumber, writeNumber, readNumber, heldNumber, interruptNumber, pinsNumber}
-use Rattle.calls.specs.Calls.{outcome, answer, resetCall, lookCall, writeCall, readCall, heldCall, interruptCall, pinsCall}
+use Rattle.calls.specs.Calls.{lookLines, heldLines, lookNumber, accessNumber, writeNumber, readNumber, heldNumber, interruptNumber, pinsNumber}
+use Rattle.calls.specs.Calls.{outcome, accessed, answer, resetCall, lookCall, writeCall, readCall, heldCall, interruptCall, pinsCall}
 use Rattle.demands.specs.Machine.{Call, reset, look, write, read, held, interrupt, pins}
 use Rattle.demands.specs.Ours.{changing, asking, called}
 use Rattle.demands.specs.Retired.{falls, oldLines}
@@ -54,7 +53,7 @@ module _ (m : Module) (s : List ℕ) (ok : sound m ≡ true) where
   unfolding falls
   nine-never = ap not (below-all (λ k. keyIn (m .size) k || not (contactAt m s k .changed)) 104 (λ k h. still k h (keyIn (m .size) k) refl))
 
--- a line that is false, behind others, gives nothing
+-- a line that is false, behind lacks, gives nothing
 late-false : (l : List Line) (n : ℕ) → numberOf (l ++ (false gives n ∷ [])) ≡ numberOf l
 unfolding numberOf
 late-false [] n = refl
@@ -69,27 +68,13 @@ same-without-nine m s = go (sound m) refl
     go true e = rw (e, nine-never m s e) (late-false (sampleLines s) 9)
     go false e = rw e refl
 
--- the numbers of a list of lines, and 0
-unfoldable numbers : List Line → List ℕ
-numbers [] = 0 ∷ []
-numbers ((b gives n) ∷ l) = n ∷ numbers l
-
-one-of : (l : List Line) → among (numberOf l) (numbers l) ≡ true
-unfolding numberOf numbers among
-one-of [] = refl
-one-of ((true gives n) ∷ l) = rw (eq-eqb n n refl)
-one-of ((false gives n) ∷ l) = rw (one-of l) (or-true (eqb (numberOf l) n))
-
-not-nine : (l : List Line) → among 9 (numbers l) ≡ false → numberOf l ≡ 9 → ⊥
-not-nine l none e = true-false (sym (one-of l) ∙ ap (λ (n : ℕ). among n (numbers l)) e ∙ none)
-
 pub no-call-gives-nine : (m : Module) (c : Call) → called m c .number ≡ 9 → ⊥
-unfolding called changing asking resetCall lookCall writeCall readCall heldCall interruptCall pinsCall outcome answer numbers among
-    lookNumber writeNumber readNumber heldNumber interruptNumber pinsNumber lookLines heldLines keyLines sampleLines readLines writeLines accessLines pinLines
+unfolding called changing asking resetCall lookCall writeCall readCall heldCall interruptCall pinsCall outcome accessed answer lacks
+    lookNumber accessNumber writeNumber readNumber heldNumber interruptNumber pinsNumber lookLines heldLines keyLines sampleLines readLines writeLines accessLines pinLines
 no-call-gives-nine m reset e = omega arith
-no-call-gives-nine m (look s) e = not-nine _ refl e
-no-call-gives-nine m (write a bs) e = not-nine _ refl e
-no-call-gives-nine m (read a out) e = not-nine _ refl e
-no-call-gives-nine m (held row col) e = not-nine _ refl e
-no-call-gives-nine m interrupt e = not-nine _ refl e
-no-call-gives-nine m (pins x) e = not-nine _ refl e
+no-call-gives-nine m (look s) e = never-given 9 _ refl e
+no-call-gives-nine m (write a bs) e = never-given 9 _ refl e
+no-call-gives-nine m (read a out) e = never-given 9 _ refl e
+no-call-gives-nine m (held row col) e = never-given 9 _ refl e
+no-call-gives-nine m interrupt e = never-given 9 _ refl e
+no-call-gives-nine m (pins x) e = never-given 9 _ refl e

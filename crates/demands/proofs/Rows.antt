@@ -8,7 +8,8 @@
 --    decide-pins                "a pin sample with a bit above 18"
 --    unsound-decided            "module state unsound": document 01's sentences, by Said
 --    numbers-exact              EVERY CALL, IN EVERY STATE, gives the number of the first row that holds
---    declined-alters-nothing    a number that isn't 0 leaves state and buffer as they came, and a question's answer is no
+--    declined-alters-nothing    a number that isn't 0 or 27 leaves state and buffer as they came, and a question's answer is no
+--    refused-wakes              27 wakes the panel, and alters nothing else
 -- Assumes nothing.
 use Prim.Native.Nat.{ℕ, suc, _-_, _≤_}
 use native.Mathlib.Decide.{ℕ-discrete, decLe}
@@ -17,7 +18,7 @@ use native.Mathlib.Nat.{le-refl}
 use mathlib.Core.Path.{_≡_, refl, sym, ap, _∙_}
 use mathlib.Core.Logic.{_⊎_, inl, inr}
 use mathlib.Core.Bool.{Bool, true, false, cond, not, _&&_, _||_}
-use mathlib.Core.List.{List}
+use mathlib.Core.List.{List, [], _∷_}
 use borrow.Author.Tests.{ne-eqb, eqb-true, leb-true, leb-false}
 use lib.Dec.{eqb, leb, ltb}
 use lib.ListN.{length, getD, drop, drop-of-length-le}
@@ -27,6 +28,8 @@ use Rattle.words.proofs.Laws.{true-false, all-below}
 use Rattle.words.proofs.Bits.{high-bit, no-high-bit}
 use Rattle.words.proofs.Lists.{all-at}
 use Rattle.words.proofs.Places.{chain, all-places, fails-at}
+use Rattle.numbers.specs.Numbers.{_gives_, unsound, sleeping}
+use Rattle.numbers.proofs.Laws.{lacks, never-given}
 use Rattle.keys.specs.Keys.{isKey, acceptable}
 use Rattle.keys.proofs.Laws.{key-yes, key-row, key-col}
 use Rattle.registers.specs.declared.Register.the-variants.{KBDBOUNCE, KBDSIZE, KBDRIS, KBDMIS, KBDIC, KBDMSK, KBDCODE, EVTCODE, RSTINTCLR, PIN, Unknown}
@@ -34,16 +37,17 @@ use Rattle.registers.specs.declared.Access.{Access}
 use Rattle.registers.specs.declared.Access.the-variants.{Read, Write}
 use Rattle.registers.specs.Registers.{pinReads, pinWrites, registerAt, address, allowed, _is_}
 use Rattle.registers.specs.Runs.{next, addresses, runAllowed}
-use Rattle.judge.specs.Lines.{high, byteFits, sizesFit, sampleLines, accessLines, readLines, writeLines, pinLines}
+use Rattle.judge.specs.Lines.{high, byteFits, sizesFit, sampleLines, accessLines, readLines, writeLines, keyLines, pinLines}
 use Rattle.state.specs.declared.Module.{Module}
+use Rattle.state.specs.Module.{woken}
 use Rattle.state.specs.Typed.{Typed}
 use Rattle.sound.specs.Sound.{sound}
 use Rattle.sound.proofs.Exactly.{sound-said, said-sound}
-use Rattle.calls.specs.Calls.{lookLines, heldLines, lookNumber, writeNumber, readNumber, heldNumber, interruptNumber, pinsNumber, outcome, answer, resetCall, lookCall, writeCall, readCall, readBuffer, heldCall, interruptCall, pinsCall}
+use Rattle.calls.specs.Calls.{lookLines, heldLines, lookNumber, accessNumber, writeNumber, readNumber, heldNumber, interruptNumber, pinsNumber, outcome, accessed, answer, resetCall, lookCall, writeCall, readCall, readBuffer, heldCall, interruptCall, pinsCall}
 use Rattle.demands.specs.Machine.{Call, reset, look, write, read, held, interrupt, pins, lent}
 use Rattle.demands.specs.Table.{First, place, Unsound, HighBits, NotAllowed, BadSize, NoKey, HighPin, rules}
 use Rattle.demands.specs.Ours.{changing, asking, called, ours}
-use Rattle.demands.proofs.Numbers.{Decides, none, _then_, lines-first, refused, decide-eq, decide-ne, decide-lt}
+use Rattle.demands.proofs.Numbers.{Decides, none, _then_, lines-first, refused, decide-true, decide-eq, decide-ne, decide-lt}
 
 -- ---- samples
 one-of : (a b c : Bool) → not (a || b || c) ≡ false → (a ≡ true) ⊎ ((b ≡ true) ⊎ (c ≡ true))
@@ -178,26 +182,40 @@ unsound-decided m t = refused (sound m) (λ e h. true-false (sym (said-sound m t
 module _ (m : Module) where
   -- "What it can't do it declines with a number from our list"
   pub numbers-exact : Typed m → (c : Call) → First (rules ours m c) (called m c .number)
-  unfolding called changing asking resetCall lookCall writeCall readCall heldCall interruptCall pinsCall outcome answer lookNumber writeNumber readNumber heldNumber interruptNumber pinsNumber lookLines heldLines sampleLines readLines writeLines accessLines pinLines rules First
+  unfolding called changing asking resetCall lookCall writeCall readCall heldCall interruptCall pinsCall outcome accessed answer lookNumber accessNumber writeNumber readNumber heldNumber interruptNumber pinsNumber lookLines heldLines sampleLines readLines writeLines accessLines pinLines rules First
   numbers-exact t reset = refl
   numbers-exact t (look s) = lines-first (unsound-decided m t then decide-ne (length s) 8 then decide-high s then none)
   numbers-exact t (write a bs) =
       let n = length bs in
-      lines-first (unsound-decided m t then decide-eq n 0 then decide-lt 32 n then decide-run Write a n then decide-sizes a bs then none)
+      lines-first (unsound-decided m t then decide-true (m .asleep) then decide-eq n 0 then decide-lt 32 n then decide-run Write a n then decide-sizes a bs then none)
   numbers-exact t (read a out) =
       let n = length out in
-      lines-first (unsound-decided m t then decide-eq n 0 then decide-lt 32 n then decide-run Read a n then none)
+      lines-first (unsound-decided m t then decide-true (m .asleep) then decide-eq n 0 then decide-lt 32 n then decide-run Read a n then none)
   numbers-exact t (held row col) = lines-first (unsound-decided m t then decide-key row col then none)
   numbers-exact t interrupt = lines-first (unsound-decided m t then none)
   numbers-exact t (pins x) = lines-first (unsound-decided m t then decide-pins x then none)
 
   -- "and a declined call alters neither the module nor the caller's buffer"; "for a question the answer no"
-  pub declined-alters-nothing : (c : Call) → (called m c .number ≡ 0 → ⊥) → (called m c .next ≡ m) × ((called m c .buffer ≡ lent c) × (called m c .answer ≡ false))
-  unfolding called changing asking resetCall lookCall writeCall readCall heldCall interruptCall pinsCall outcome answer readBuffer lent
-  declined-alters-nothing reset h = absurd (h refl)
-  declined-alters-nothing (look s) h = (rw (ne-eqb (lookNumber m s) 0 h), (refl, refl))
-  declined-alters-nothing (write a bs) h = (rw (ne-eqb (writeNumber m a bs) 0 h), (refl, refl))
-  declined-alters-nothing (read a out) h = let d = ne-eqb (readNumber m a (length out)) 0 h in (rw d, (rw d, refl))
-  declined-alters-nothing (held row col) h = (refl, (refl, rw (ne-eqb (heldNumber m row col) 0 h)))
-  declined-alters-nothing interrupt h = (refl, (refl, rw (ne-eqb (interruptNumber m) 0 h)))
-  declined-alters-nothing (pins x) h = (rw (ne-eqb (pinsNumber m x) 0 h), (refl, refl))
+  pub declined-alters-nothing : (c : Call) → (called m c .number ≡ 0 → ⊥) → (called m c .number ≡ 27 → ⊥)
+      → (called m c .next ≡ m) × ((called m c .buffer ≡ lent c) × (called m c .answer ≡ false))
+  unfolding called changing asking resetCall lookCall writeCall readCall heldCall interruptCall pinsCall outcome accessed answer readBuffer lent
+  declined-alters-nothing reset h z = absurd (h refl)
+  declined-alters-nothing (look s) h z = (rw (ne-eqb (lookNumber m s) 0 h), (refl, refl))
+  declined-alters-nothing (write a bs) h z = (rw (ne-eqb (writeNumber m a bs) 0 h, ne-eqb (writeNumber m a bs) 27 z), (refl, refl))
+  declined-alters-nothing (read a out) h z =
+      let d = ne-eqb (readNumber m a (length out)) 0 h in
+      (rw (d, ne-eqb (readNumber m a (length out)) 27 z), (rw d, refl))
+  declined-alters-nothing (held row col) h z = (refl, (refl, rw (ne-eqb (heldNumber m row col) 0 h)))
+  declined-alters-nothing interrupt h z = (refl, (refl, rw (ne-eqb (interruptNumber m) 0 h)))
+  declined-alters-nothing (pins x) h z = (rw (ne-eqb (pinsNumber m x) 0 h), (refl, refl))
+
+  -- document 02, E7: "that refusal alters only the sleep state and the count"
+  pub refused-wakes : (c : Call) → called m c .number ≡ 27 → (called m c .next ≡ woken m) × ((called m c .buffer ≡ lent c) × (called m c .answer ≡ false))
+  unfolding called changing asking resetCall lookCall writeCall readCall heldCall interruptCall pinsCall outcome accessed answer readBuffer lent lookNumber lookLines sampleLines heldNumber heldLines keyLines interruptNumber pinsNumber pinLines lacks
+  refused-wakes reset z = absurd (omega arith)
+  refused-wakes (look s) z = absurd (never-given sleeping (lookLines m s) refl z)
+  refused-wakes (write a bs) z = (rw z, (refl, refl))
+  refused-wakes (read a out) z = (rw z, (rw z, refl))
+  refused-wakes (held row col) z = absurd (never-given sleeping (heldLines m row col) refl z)
+  refused-wakes interrupt z = absurd (never-given sleeping (not (sound m) gives unsound ∷ []) refl z)
+  refused-wakes (pins x) z = absurd (never-given sleeping (not (sound m) gives unsound ∷ pinLines x) refl z)

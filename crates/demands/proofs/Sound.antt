@@ -22,6 +22,7 @@ use Rattle.registers.specs.declared.Register.{Register}
 use Rattle.sheet.specs.Sheet.{Past, looked, wrote, got, beside, size, held, waiting, marks}
 use Rattle.words.proofs.Lists.{by-test, all-append, all-anywhere, all-replicate}
 use Rattle.sheet.proofs.Facts.{waiting-most, waiting-bytes, never-all, mask-low}
+use Rattle.sheet.proofs.Sleep.{quiet-low, quiet-sleeps}
 use Rattle.sheet.proofs.Sizes.{writes, sizeFits, bounce-low, size-ok, out-open, run-low, waiting-in}
 use Rattle.sheet.proofs.Sizes as sizes
 use Rattle.judge.specs.Lines.{byteFits}
@@ -93,6 +94,8 @@ facts past f =
       rest = rest-shown past;
       mask = mask-low past;
       marks = seen-all (marks past) ∙ never-all past;
+      counted = quiet-low past;
+      asleep = quiet-sleeps past;
     }
 
 pub shown-sound : (past : Past) → fitting past ≡ true → sound (shown past) ≡ true

@@ -1,6 +1,6 @@
 -- THE KEYPAD AND THE SPARE PINS LEAVE EACH OTHER ALONE, in every state, reached or not.
 --
---    pins-leave-keys      a pin sample, and every access that begins at an address of the pins, leaves the keypad's state as it was; a read there leaves all of it
+--    pins-leave-keys      a pin sample leaves all but the pins' part; an access that begins at an address of the pins leaves the keypad's state, but for the count and the sleep; a read there the pins' part too
 --    keypad-leaves-pins   a look, a block of looks, a read, and a write that begins at an address of the keypad, leaves the pins' part as it was
 --    size-keeps-pins      so does a write that covers KBDSIZE, bit for bit
 --    first-makes-none     the first sample after reset makes no edge
@@ -14,14 +14,14 @@ use mathlib.Core.Path.{_≡_, refl, sym, ap, subst, _∙_}
 use mathlib.Core.Bool.{Bool, true, false, cond, not, _&&_, _||_, Bool·beq, or-true, or-false}
 use mathlib.Core.List.{List, [], _∷_}
 use borrow.Author.Tests.{ne-eqb, eqb-true, not-false}
-use lib.Dec.{eqb, leb}
+use lib.Dec.{eqb}
 use lib.ListN.{length, set, take, drop, getD-replicate}
 use Rattle.words.specs.Words.{all, some, bit, table}
 use Rattle.words.proofs.Laws.{true-false, and-left}
 use Rattle.words.proofs.Lists.{by-test}
 use Rattle.words.proofs.Bits.{bit-none, binary-bit}
 use Rattle.words.proofs.Tables.{table-at, by-table}
-use Rattle.numbers.specs.Numbers.{numberOf, unsound}
+use Rattle.numbers.specs.Numbers.{_gives_, numberOf, unsound, sleeping}
 use Rattle.numbers.proofs.Laws.{declining, line-false}
 use Rattle.keys.specs.Keys.{acceptable, keyIn}
 use Rattle.pins.specs.Rules.{used, DATA, MASK, DIR, OME, OMS, drives, edge, word}
@@ -36,7 +36,7 @@ use Rattle.registers.specs.Runs.{next, runAllowed}
 use Rattle.registers.proofs.Laws.{run-no, pin-from}
 use Rattle.judge.specs.Lines.{byteFits, sizesFit, accessLines, writeLines}
 use Rattle.state.specs.declared.Module.{Module}
-use Rattle.state.specs.Module.{queueOf, withQueue, withRsint, withSeen, keypad, fresh, forgotten, restarted}
+use Rattle.state.specs.Module.{queueOf, withQueue, withRsint, withSeen, withPins, woken, keypad, fresh, forgotten, restarted}
 use Rattle.state.specs.Queue.{waiting, putAll}
 use Rattle.picture.specs.Picture.{allRead, marked}
 use Rattle.sound.specs.Sound.{keySound, codesSound, restUnused, sound}
@@ -45,7 +45,7 @@ use Rattle.scan.specs.Scan as scan
 use Rattle.access.specs.Bytes.{written, readOut}
 use Rattle.access.specs.Accesses.{wrote, readAll}
 use Rattle.access.proofs.Pins.{next-from, next-most, along-read, keypad-run, told-no-pin}
-use Rattle.calls.specs.Calls.{lookNumber, writeNumber, readNumber, interruptNumber, pinsNumber, outcome, lookCall, writeCall, readCall, sampling, pinsCall, driveOf, driveCall}
+use Rattle.calls.specs.Calls.{lookNumber, accessNumber, writeNumber, readNumber, interruptNumber, pinsNumber, outcome, accessed, lookCall, writeCall, readCall, sampling, pinsCall, driveOf, driveCall}
 use Rattle.calls.specs.Blocks as blocks
 use Rattle.calls.specs.Blocks.{blockLines, looksCall}
 use Rattle.demands.specs.Machine.{look, write, read, pins, covers}
@@ -66,16 +66,23 @@ unfolding wrote
 pins-wrote [] m a h = refl
 pins-wrote (b ∷ bs) m a h = pins-wrote bs (written m (registerAt a) b) (next a) (next-from a h) ∙ pin-written m a b h
 
+-- an access is done, and wakes; or it is declined, and wakes or leaves the module
+accessed-case : (P : Module → Type 0) (m x : Module) (n : ℕ) → (n ≡ 0 → P (woken x)) → P (woken m) → P m → P (accessed m x n .after)
+unfolding accessed
+accessed-case P m x n done refused declined =
+    by-test (λ t. P (cond t (woken x) (cond (eqb n sleeping) (woken m) m))) (eqb n 0) (λ e. done (eqb-true n 0 e))
+    (λ _. by-test (λ t. P (cond t (woken m) m)) (eqb n sleeping) (λ _. refused) (λ _. declined))
+
 pub pins-leave-keys : (m : Module)
-    → ((x : ℕ) → keypad (called m (pins x) .next) ≡ keypad m)
+    → ((x : ℕ) → withPins (called m (pins x) .next) (m .pins) ≡ m)
     × (((a : ℕ) (bs : List ℕ) → 0x91 ≤ a → keypad (called m (write a bs) .next) ≡ keypad m)
-    × ((a : ℕ) (out : List ℕ) → 0x91 ≤ a → called m (read a out) .next ≡ m))
+    × ((a : ℕ) (out : List ℕ) → 0x91 ≤ a → woken (called m (read a out) .next) ≡ woken m))
 unfolding called changing pinsCall sampling writeCall readCall outcome
 pins-leave-keys m = (
-  (λ x. by-test (λ t. keypad (cond t (sampling m x) m) ≡ keypad m) (eqb (pinsNumber m x) 0) (λ e. refl) (λ e. refl)),
+  (λ x. by-test (λ t. withPins (cond t (sampling m x) m) (m .pins) ≡ m) (eqb (pinsNumber m x) 0) (λ e. refl) (λ e. refl)),
   (
-    (λ a bs h. by-test (λ t. keypad (cond t (wrote m a bs) m) ≡ keypad m) (eqb (writeNumber m a bs) 0) (λ e. pins-wrote bs m a h) (λ e. refl)),
-    (λ a out h. by-test (λ t. cond t (readAll m a (length out)) m ≡ m) (eqb (readNumber m a (length out)) 0) (λ e. sym (along-read m (length out) a h .0)) (λ e. refl)),
+    (λ a bs h. accessed-case (λ y. keypad y ≡ keypad m) m (wrote m a bs) (writeNumber m a bs) (λ _. pins-wrote bs m a h) refl refl),
+    (λ a out h. accessed-case (λ y. woken y ≡ woken m) m (readAll m a (length out)) (readNumber m a (length out)) (λ _. ap woken (sym (along-read m (length out) a h .0))) refl refl),
   ),
 )
 
@@ -151,24 +158,23 @@ run-stays a (suc n) h run = go (ℕ-discrete a 0x10)
     go (no e) = keypad-run Write (suc n) a h e run
 
 write-leaves : (m : Module) (a : ℕ) (bs : List ℕ) → a < 0x91 → called m (write a bs) .next .pins ≡ m .pins
-unfolding called changing writeCall outcome
+unfolding called changing writeCall
 write-leaves m a bs h =
-    by-test (λ t. eqb (writeNumber m a bs) 0 ≡ t → cond t (wrote m a bs) m .pins ≡ m .pins) (eqb (writeNumber m a bs) 0)
-    (λ _ e. writes-pins bs m a (run-stays a (length bs) h (write-run m a bs (eqb-true (writeNumber m a bs) 0 e)))) (λ _ e. refl) refl
+    accessed-case (λ y. y .pins ≡ m .pins) m (wrote m a bs) (writeNumber m a bs) (λ z. writes-pins bs m a (run-stays a (length bs) h (write-run m a bs z))) refl refl
 
 pub keypad-leaves-pins : (m : Module)
     → ((s : List ℕ) → called m (look s) .next .pins ≡ m .pins)
     × (((s : List ℕ) → wide .looks m s .next .pins ≡ m .pins)
     × (((a : ℕ) (out : List ℕ) → called m (read a out) .next .pins ≡ m .pins)
     × ((a : ℕ) (bs : List ℕ) → a < 0x91 → called m (write a bs) .next .pins ≡ m .pins)))
-unfolding called changing readCall outcome blocking looksCall
+unfolding called changing readCall blocking looksCall
 keypad-leaves-pins m = (
   looked-pins m,
   (
     (λ s. by-test (λ t. cond t (blocks.singles (length s / 8) m s) (blocks.stopped m (numberOf (blockLines m s))) .after .pins ≡ m .pins) (eqb (numberOf (blockLines m s)) 0)
         (λ e. singles-pins (length s / 8) m s) (λ e. refl)),
     (
-      (λ a out. by-test (λ t. cond t (readAll m a (length out)) m .pins ≡ m .pins) (eqb (readNumber m a (length out)) 0) (λ e. reads-pins (length out) m a) (λ e. refl)),
+      (λ a out. accessed-case (λ y. y .pins ≡ m .pins) m (readAll m a (length out)) (readNumber m a (length out)) (λ _. reads-pins (length out) m a) refl refl),
       write-leaves m,
     ),
   ),
@@ -222,19 +228,21 @@ restarted-sound m s ok e =
       rest = refl;
       mask = sound-facts m ok .mask;
       marks = refl;
+      counted = omega arith;
+      asleep = refl;
     })
 
 module _ (m : Module) (s : ℕ) (z : called m (write 0x03 (s ∷ [])) .number ≡ 0) where
   was-sound : sound m ≡ true
-  unfolding called changing writeCall outcome writeNumber writeLines accessLines declining
-  was-sound = not-false (sound m) (line-false [] (not (sound m)) unsound _ refl z)
+  unfolding called changing writeCall accessed writeNumber accessNumber writeLines accessLines declining
+  was-sound = not-false (sound m) (line-false [] (not (sound m)) unsound (m .asleep gives sleeping ∷ writeLines 0x03 (s ∷ [])) refl z)
 
   accepted : acceptable s ≡ true
-  unfolding called changing writeCall outcome sizesFit byteFits registerAt _is_ address
+  unfolding called changing writeCall accessed sizesFit byteFits registerAt _is_ address
   accepted = and-left (acceptable s) true (write-fit m 0x03 (s ∷ []) z)
 
   size-written : called m (write 0x03 (s ∷ [])) .next ≡ restarted m s
-  unfolding called changing writeCall outcome wrote written registerAt
+  unfolding called changing writeCall accessed wrote written registerAt restarted fresh
   size-written = rw z
 
   pub kept-until-free : (i : ℕ) → i < 19 → used s i ≡ false

@@ -8,8 +8,9 @@
 --    Act                  a call, or a block; numberOf W σ a, its number
 --    Leads M n σ s τ      n looks of the samples s, each of them done, lead from the state σ to τ
 --    Unaltered W σ a      the act leaves module and buffer as they came
+--    Woken W σ a          the act is an access that the panel's sleep declined: it woke the panel, and altered nothing else
 --    Stopped W σ a        the act is a block that stopped at a look, and left what its done looks left
---    Demand1Wide W        DEMAND 1, WITH ITS EXCEPTION
+--    Demand1Wide W        DEMAND 1, WITH ITS TWO EXCEPTIONS
 --    afterActs, pastOf, fetched    the state after acts, newest first, what has happened, and the codes fetched: a block is its looks, one by one
 --    DemandsWide W        DEMANDS 2 AND 3, over every list of acts
 --    spelled W acts       the acts as calls, each block as the looks that were done
@@ -25,10 +26,11 @@ use Rattle.keys.specs.Replay.{replayed}
 use Rattle.sheet.specs.Sheet as sheet
 use Rattle.sheet.specs.Sheet.{Past, looked}
 use Rattle.sheet.specs.Ledger.{kept, lost, arrivals, unreported}
+use Rattle.state.specs.Module.{woken}
 use Rattle.state.specs.Typed.{Typed}
 use Rattle.sound.specs.Said.{Said}
 use Rattle.demands.specs.Machine as machine
-use Rattle.demands.specs.Machine.{Call, look, read, held, interrupt, Machine, lent, happened, fits, seen}
+use Rattle.demands.specs.Machine.{Call, look, write, read, held, interrupt, Machine, lent, noted, fits, awake, seen}
 use Rattle.demands.specs.Table.{Rule, _⇒_, First, Unsound}
 use Rattle.demands.specs.Demands.{Demand1, bytesOf}
 
@@ -97,6 +99,13 @@ module _ (W : Wide) where
   Unaltered σ (call c) = let g = W .calls .does σ c in (g .next ≡ σ) × ((g .buffer ≡ lent c) × (g .answer ≡ false))
   Unaltered σ (block s) = (W .looks σ s .next ≡ σ) × (W .looks σ s .done ≡ 0)
 
+  -- "that refusal alters only the sleep state and the count"
+  unfoldable pub Woken : W .calls .State → Act → Type 0
+  Woken σ (call c) =
+      let g = W .calls .does σ c in
+      (g .number ≡ 27) × ((W .calls .parts (g .next) ≡ woken (W .calls .parts σ)) × ((g .buffer ≡ lent c) × (g .answer ≡ false)))
+  Woken σ (block s) = ⊥
+
   -- its number is that of the look behind the done ones
   unfoldable pub Stopped : W .calls .State → Act → Type 0
   Stopped σ (call c) = ⊥
@@ -105,11 +114,11 @@ module _ (W : Wide) where
       Leads (W .calls) (b .done) σ s (b .next) × (W .calls .does (b .next) (look (take 8 (drop (8 * b .done) s))) .number ≡ b .number)
 
 -- "1. The module takes every call, with every value, and finishes it. What it can't do it declines with a number from our list,
--- and a declined call alters neither the module nor the caller's buffer": "demand 1's rule on declined calls gains this exception"
+-- and a declined call alters neither the module nor the caller's buffer": "demand 1's rule on declined calls gains this exception"; E7: "one more exception"
 pub record Demand1Wide (W : Wide) : Type 0 where
   pub calls : Demand1 (W .calls)
   pub blocks : BlockDemand W
-  pub declined : (σ : W .calls .State) (a : Act) → (numberOf W σ a ≡ 0 → ⊥) → Unaltered W σ a ⊎ Stopped W σ a
+  pub declined : (σ : W .calls .State) (a : Act) → (numberOf W σ a ≡ 0 → ⊥) → Unaltered W σ a ⊎ (Woken W σ a ⊎ Stopped W σ a)
 
 -- ---- demands 2 and 3
 -- n looks of the samples s, one by one
@@ -129,7 +138,7 @@ module _ (W : Wide) where
 
   unfoldable pub pastOf : List Act → Past
   pastOf [] = []
-  pastOf (call c ∷ acts) = happened c (pastOf acts) if eqb (W .calls .does (afterActs acts) c .number) 0 else pastOf acts
+  pastOf (call c ∷ acts) = noted (W .calls .does (afterActs acts) c .number) c (pastOf acts)
   pastOf (block s ∷ acts) = lookeds (W .looks (afterActs acts) s .done) s (pastOf acts)
 
   unfoldable pub fetched : List Act → List ℕ
@@ -148,13 +157,17 @@ pub record DemandsWide (W : Wide) : Type 0 where
       → W .calls .does (afterActs W acts) (held row col) .answer ≡ sheet.held (13 * row + col) (pastOf W acts)
   pub line : (acts : List Act) → all fit acts ≡ true → W .calls .does (afterActs W acts) interrupt .answer ≡ sheet.line (pastOf W acts)
   pub ledger : (acts : List Act) → all fit acts ≡ true → fetched W acts ++ seen (W .calls) (afterActs W acts) ≡ kept (arrivals (pastOf W acts))
-  pub progress : (acts : List Act) → all fit acts ≡ true → W .calls .does (afterActs W acts) (read 0x10 (0 ∷ [])) .buffer ≡ 0x7F ∷ []
+  pub progress : (acts : List Act) → all fit acts ≡ true → W .calls .does (awake (W .calls) (afterActs W acts)) (read 0x10 (0 ∷ [])) .buffer ≡ 0x7F ∷ []
       → fetched W acts ≡ kept (arrivals (pastOf W acts))
   pub replay : (acts : List Act) → all fit acts ≡ true → lost (arrivals (pastOf W acts)) ≡ []
       → (row col : ℕ) → row ≤ 7 → col ≤ 12
       → replayed (13 * row + col) false (fetched W acts ++ seen (W .calls) (afterActs W acts)) ≡ W .calls .does (afterActs W acts) (held row col) .answer
   pub told : (acts : List Act) → all fit acts ≡ true
-      → all (bit 3) (W .calls .does (afterActs W acts) (read 0x06 (0 ∷ [])) .buffer) ≡ some (unreported (pastOf W acts))
+      → all (bit 3) (W .calls .does (awake (W .calls) (afterActs W acts)) (read 0x06 (0 ∷ [])) .buffer) ≡ some (unreported (pastOf W acts))
+  -- E7, as in specs/Sleep.antt
+  pub sleep : (acts : List Act) → all fit acts ≡ true → (a : ℕ) (bytes : List ℕ)
+      → (eqb (W .calls .does (afterActs W acts) (read a bytes) .number) 27 ≡ sheet.asleep (pastOf W acts))
+      × (eqb (W .calls .does (afterActs W acts) (write a bytes) .number) 27 ≡ sheet.asleep (pastOf W acts))
 
 -- ---- acts as calls
 -- n looks of the samples s, made after the calls cs

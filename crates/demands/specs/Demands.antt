@@ -1,4 +1,5 @@
--- THE CUSTOMER'S DEMANDS, as predicates over machines. They speak of what a caller can see; only soundness, row 8 of the table, looks into a state.
+-- THE CUSTOMER'S DEMANDS, as predicates over machines. They speak of what a caller can see; into a state, as the machine tells it, look only
+-- rows 8 and 27 of the table, soundness and sleep, and what 27 leaves.
 --
 --    Demand1, Demand2, Demand3    the three demands
 --    NeverUnsound                 "never for a state reached by calls from reset"
@@ -16,19 +17,23 @@ use Rattle.registers.specs.Runs.{next}
 use Rattle.sheet.specs.Sheet as sheet
 use Rattle.sheet.specs.Sheet.{Past, got}
 use Rattle.sheet.specs.Ledger.{kept, lost, arrivals, unreported}
+use Rattle.state.specs.Module.{woken}
 use Rattle.state.specs.Typed.{Typed}
 use Rattle.sound.specs.Said.{Said}
-use Rattle.demands.specs.Machine.{Call, read, held, interrupt, Machine, lent, after, done, fits, fetched, seen}
+use Rattle.demands.specs.Machine.{Call, read, held, interrupt, Machine, lent, after, done, fits, fetched, awake, seen}
 use Rattle.demands.specs.Table.{First, rules}
 
 -- "1. The module takes every call, with every value, and finishes it. What it can't do it declines with a number from our list,
 -- and a declined call alters neither the module nor the caller's buffer."
+-- Document 02, E7, of 27: "that refusal alters only the sleep state and the count, one more exception to demand 1".
 -- Of seven calls; the same with blocks of looks, and with the exception that these have, is Demand1Wide on the page Blocks.
 pub record Demand1 (M : Machine) : Type 0 where
   -- of every state whose parts are values of their types
   pub exact : (σ : M .State) → Typed (M .parts σ) → (c : Call) → First (rules M σ c) (M .does σ c .number)
-  pub declined : (σ : M .State) (c : Call) → (M .does σ c .number ≡ 0 → ⊥)
+  pub declined : (σ : M .State) (c : Call) → (M .does σ c .number ≡ 0 → ⊥) → (M .does σ c .number ≡ 27 → ⊥)
       → (M .does σ c .next ≡ σ) × ((M .does σ c .buffer ≡ lent c) × (M .does σ c .answer ≡ false))
+  pub refused : (σ : M .State) (c : Call) → M .does σ c .number ≡ 27
+      → (M .parts (M .does σ c .next) ≡ woken (M .parts σ)) × ((M .does σ c .buffer ≡ lent c) × (M .does σ c .answer ≡ false))
 
 -- "Number 8 is given exactly otherwise, and never for a state reached by calls from reset."
 pub record NeverUnsound (M : Machine) : Type 0 where
@@ -55,7 +60,7 @@ pub record Demand2 (M : Machine) : Type 0 where
 pub record Demand3 (M : Machine) : Type 0 where
   pub ledger : (cs : List Call) → all fits cs ≡ true → fetched M cs ++ seen M (after M cs) ≡ kept (arrivals (done M cs))
   -- a byte of EVTCODE is 0x7F only when nothing waits
-  pub progress : (cs : List Call) → all fits cs ≡ true → M .does (after M cs) (read 0x10 (0 ∷ [])) .buffer ≡ 0x7F ∷ []
+  pub progress : (cs : List Call) → all fits cs ≡ true → M .does (awake M (after M cs)) (read 0x10 (0 ∷ [])) .buffer ≡ 0x7F ∷ []
       → fetched M cs ≡ kept (arrivals (done M cs))
   pub replay : (cs : List Call) → all fits cs ≡ true → lost (arrivals (done M cs)) ≡ []
       → (row col : ℕ) → row ≤ 7 → col ≤ 12
@@ -63,4 +68,4 @@ pub record Demand3 (M : Machine) : Type 0 where
 
 -- RELINT, bit 3 of KBDRIS, is set exactly when a change was lost since the restart or the last done KBDIC write with bit 1
 pub record NoSilentLoss (M : Machine) : Type 0 where
-  pub told : (cs : List Call) → all fits cs ≡ true → all (bit 3) (M .does (after M cs) (read 0x06 (0 ∷ [])) .buffer) ≡ some (unreported (done M cs))
+  pub told : (cs : List Call) → all fits cs ≡ true → all (bit 3) (M .does (awake M (after M cs)) (read 0x06 (0 ∷ [])) .buffer) ≡ some (unreported (done M cs))

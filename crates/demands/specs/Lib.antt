@@ -4,6 +4,7 @@ pub mod Table
 pub mod Demands
 pub mod Blocks
 pub mod Pins
+pub mod Sleep
 pub mod Ours
 pub mod Shown
 pub mod Wrong
@@ -12,3 +13,4 @@ pub mod Sessions
 pub mod Retired
 pub mod WrongHidden
 pub mod WrongPins
+pub mod WrongSleep

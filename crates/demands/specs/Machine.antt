@@ -5,10 +5,11 @@
 --    Machine         any set of states with a start, and what each call does
 --    lent c          the buffer that is lent to a call
 --    after M cs      the state after calls, newest first, that begin after a reset
---    done M cs       what has happened, for the sheet: the calls that were done, byte by byte
+--    done M cs       what has happened, for the sheet: the calls that were done, byte by byte, and the accesses that the panel's sleep declined
 --    fits c          the values of a call fit their types
 --    fetched M cs    the codes that done reads really put into callers' buffers since the restart
---    seen M σ        the codes that a read of 15 bytes of EVTCODE would give now
+--    awake M σ       the state σ, once the panel is awake
+--    seen M σ        the codes that a read of 15 bytes of EVTCODE would give now, once the panel is awake
 use Prim.Native.Nat.{ℕ, zero, suc}
 use mathlib.Core.Bool.{Bool, true, false}
 use mathlib.Core.List.{List, [], _∷_, _++_}
@@ -18,7 +19,7 @@ use Rattle.words.specs.Words.{_if_, _else_, all}
 use Rattle.registers.specs.declared.Register.the-variants.{KBDSIZE, EVTCODE}
 use Rattle.registers.specs.Registers.{registerAt, _is_}
 use Rattle.registers.specs.Runs.{next}
-use Rattle.sheet.specs.Sheet.{Past, sampled, looked, wrote, got, beside}
+use Rattle.sheet.specs.Sheet.{Past, sampled, refused, looked, wrote, got, beside}
 use Rattle.sheet.specs.Ledger.{codeGot}
 use Rattle.state.specs.declared.Module.{Module}
 
@@ -50,7 +51,7 @@ pub record Machine : Type 1 where
   pub State : Type 0
   -- the state after reset
   pub start : State
-  -- what document 01 speaks of in a state: size, keys and runs, queue, mask and marks, as our struct has them; no demand looks at its pins
+  -- what document 01 speaks of in a state: size, keys and runs, queue, mask and marks, and the count and the sleep of document 02, as our struct has them
   pub parts : State → Module
   pub does : State → Call → Gives State
 
@@ -88,9 +89,13 @@ happened (held row col) past = past
 happened interrupt past = past
 happened (pins x) past = beside (sampled x) ∷ past
 
+-- what a call adds that gave the number n. Document 02, E7: an access that is declined with 27 "wakes it", and so has happened too
+unfoldable pub noted : ℕ → Call → Past → Past
+noted n c past = happened c past if eqb n 0 else (beside refused ∷ past if eqb n 27 else past)
+
 unfoldable pub done : (M : Machine) → List Call → Past
 done M [] = []
-done M (c ∷ cs) = happened c (done M cs) if eqb (M .does (after M cs) c .number) 0 else done M cs
+done M (c ∷ cs) = noted (M .does (after M cs) c .number) c (done M cs)
 
 -- a byte is below 256; nothing else is asked of a call's values
 unfoldable pub fits : Call → Bool
@@ -128,5 +133,9 @@ unfoldable pub fetched : (M : Machine) → List Call → List ℕ
 fetched M [] = []
 fetched M (c ∷ cs) = fetchedBy c (M .does (after M cs) c .buffer) (fetched M cs) if eqb (M .does (after M cs) c .number) 0 else fetched M cs
 
+-- an access of no bytes is always declined: by 3, which alters nothing, or asleep by 27, which wakes
+unfoldable pub awake : (M : Machine) → M .State → M .State
+awake M σ = M .does σ (read 0x10 []) .next
+
 unfoldable pub seen : (M : Machine) → M .State → List ℕ
-seen M σ = codesIn 0x10 (M .does σ (read 0x10 (replicate 15 0)) .buffer)
+seen M σ = codesIn 0x10 (M .does (awake M σ) (read 0x10 (replicate 15 0)) .buffer)

@@ -17,21 +17,22 @@ use Rattle.words.specs.Words.{among, some, table}
 use Rattle.pins.specs.declared.Pins.{Pins}
 use Rattle.pins.specs.Pins.{addressOf, pins}
 use Rattle.contact.specs.Contact.{samples, runOf}
-use Rattle.sheet.specs.Sheet.{Past, sampled, looked, wrote, got, beside, bounce, size, mask, history, held, waiting, relint, marks, rsint, rklint, porirq, keptAt, pinSamples, newest, pending}
+use Rattle.sheet.specs.Sheet.{Past, sampled, refused, looked, wrote, got, beside, bounce, size, mask, history, held, waiting, relint, marks, rsint, rklint, porirq, keptAt, pinSamples, newest, pending, quiet, asleep}
 use Rattle.judge.specs.Lines.{byteFits}
 use Rattle.state.specs.declared.Module.{Module}
-use Rattle.state.specs.Module.{fresh}
+use Rattle.state.specs.Module.{fresh, woken}
 use Rattle.calls.specs.Calls.{sampling}
 use Rattle.scan.specs.Scan as scan
 use Rattle.access.specs.Bytes.{written, readOut}
 
--- "Bytes take effect one at a time, in order."
+-- "Bytes take effect one at a time, in order."; after each of them, and after a refusal, the panel is awake and its count is 0
 unfoldable pub after : Past → Module
 after [] = fresh
 after (looked s ∷ past) = scan.looked (after past) s
-after (wrote r b ∷ past) = written (after past) r b
-after (got r ∷ past) = readOut (after past) r
+after (wrote r b ∷ past) = woken (written (after past) r b)
+after (got r ∷ past) = woken (readOut (after past) r)
 after (beside (sampled x) ∷ past) = sampling (after past) x
+after (beside refused ∷ past) = woken (after past)
 
 -- "its run: how many of its newest ones in a row are the opposite of how it is held"
 unfoldable pub run : ℕ → Past → ℕ
@@ -60,6 +61,8 @@ shown past =
       relint = relint past;
       porirq = porirq past;
       seen = table (λ n. among n (marks past)) 4;
+      quiet = quiet past;
+      asleep = asleep past;
       pins = pinsShown past;
     }
 

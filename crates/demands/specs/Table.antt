@@ -4,7 +4,7 @@
 --    Rule, P ⇒ n         a row of the table: n, when P holds
 --    First rules n       "A number is given exactly when its line is true and no line before it in this order is."
 --    place a k           the address of place k of a run that begins at a
---    Unsound, NotEight, HighBits, NotAllowed, BadSize, NoKey, HighPin    the conditions of rows 8, 1, 2, 5, 6, 7 and 26
+--    Unsound, NotEight, HighBits, Asleep, NotAllowed, BadSize, NoKey, HighPin    the conditions of rows 8, 1, 2, 27, 5, 6, 7 and 26
 --    rules M σ c         the rows for a call c that is made in the state σ, in document 01's order
 use Prim.Native.Nat.{ℕ, zero, suc, _<_}
 use mathlib.Core.Path.{_≡_}
@@ -47,6 +47,10 @@ NotEight s = length s ≡ 8 → ⊥
 abbrev pub HighBits : List ℕ → Type 0
 HighBits s = (k : ℕ) × ((k < length s) × ((bit 13 (getD s k 0) ≡ true) ⊎ ((bit 14 (getD s k 0) ≡ true) ⊎ (bit 15 (getD s k 0) ≡ true))))
 
+-- document 02, E7: "asleep"
+abbrev pub Asleep : Module → Type 0
+Asleep m = m .asleep ≡ true
+
 -- "some address of the run is unknown, or can't be read or written as asked"
 abbrev pub NotAllowed : Access → ℕ → ℕ → Type 0
 NotAllowed way a n = (k : ℕ) × ((k < n) × (allowed way (registerAt (place a k)) ≡ false))
@@ -63,12 +67,16 @@ NoKey row col = (7 < row) ⊎ (12 < col)
 abbrev pub HighPin : ℕ → Type 0
 HighPin x = (k : ℕ) × ((18 < k) × (bit k x ≡ true))
 
--- "Order: 8; then 1, 2, 9 for a look; 3, 4, 5, 6 for an access; 7 for the held question.": without 9, which is retired. E6: "26 [..], after 8"
+-- "Order: 8; then 1, 2, 9 for a look; 3, 4, 5, 6 for an access; 7 for the held question.": without 9, which is retired. E6: "26 [..], after 8". E7: "27 asleep, after 8 and before 3"
 unfoldable pub rules : (M : Machine) → M .State → Call → List Rule
 rules M σ reset = []
 rules M σ (look s) = Unsound (M .parts σ) ⇒ 8 ∷ NotEight s ⇒ 1 ∷ HighBits s ⇒ 2 ∷ []
-rules M σ (write a bs) = Unsound (M .parts σ) ⇒ 8 ∷ (length bs ≡ 0) ⇒ 3 ∷ (32 < length bs) ⇒ 4 ∷ NotAllowed Write a (length bs) ⇒ 5 ∷ BadSize a bs ⇒ 6 ∷ []
-rules M σ (read a out) = Unsound (M .parts σ) ⇒ 8 ∷ (length out ≡ 0) ⇒ 3 ∷ (32 < length out) ⇒ 4 ∷ NotAllowed Read a (length out) ⇒ 5 ∷ []
+rules M σ (write a bs) =
+    Unsound (M .parts σ) ⇒ 8 ∷ Asleep (M .parts σ) ⇒ 27
+    ∷ (length bs ≡ 0) ⇒ 3 ∷ (32 < length bs) ⇒ 4 ∷ NotAllowed Write a (length bs) ⇒ 5 ∷ BadSize a bs ⇒ 6 ∷ []
+rules M σ (read a out) =
+    Unsound (M .parts σ) ⇒ 8 ∷ Asleep (M .parts σ) ⇒ 27
+    ∷ (length out ≡ 0) ⇒ 3 ∷ (32 < length out) ⇒ 4 ∷ NotAllowed Read a (length out) ⇒ 5 ∷ []
 rules M σ (held row col) = Unsound (M .parts σ) ⇒ 8 ∷ NoKey row col ⇒ 7 ∷ []
 rules M σ interrupt = Unsound (M .parts σ) ⇒ 8 ∷ []
 rules M σ (pins x) = Unsound (M .parts σ) ⇒ 8 ∷ HighPin x ⇒ 26 ∷ []

@@ -5,7 +5,7 @@
 --    declining      declines every call
 --    blank          EVTCODE is always 7F, and the code is taken out
 --    stuck          EVTCODE is always 7F, and the code stays
---    asleep         a look does nothing
+--    idle           a look does nothing
 --    firstLook      the first look is handled, and all later ones are ignored
 --    inventive      a made-up code waits
 --    remembering    a bounce run is counted across a restart
@@ -28,13 +28,13 @@ use Rattle.words.specs.Words.{_if_, _else_, table}
 use Rattle.keys.specs.Keys.{keyAt}
 use Rattle.registers.specs.Registers.{registerAt}
 use Rattle.state.specs.declared.Module.{Module}
-use Rattle.state.specs.Module.{Queue, queue, queueOf, withKeys, withQueue, withRelint, fresh}
+use Rattle.state.specs.Module.{Queue, queue, sleep, queueOf, withKeys, withQueue, withRelint, withSleep, fresh}
 use Rattle.state.specs.Queue.{waits, put, taken}
 use Rattle.flags.specs.Flags.{line}
 use Rattle.scan.specs.Scan.{contactAt, changesBelow, changes, looked}
 use Rattle.access.specs.Bytes.{byteOf, readOut}
 use Rattle.access.specs.Accesses.{wrote, readAll, bytesRead}
-use Rattle.calls.specs.Calls.{lookNumber, writeNumber, readNumber, heldNumber, interruptNumber, pinsNumber, sampling, outcome, answer, resetCall, heldCall}
+use Rattle.calls.specs.Calls.{lookNumber, writeNumber, readNumber, heldNumber, interruptNumber, pinsNumber, sampling, outcome, accessed, answer, resetCall, heldCall}
 use Rattle.demands.specs.Machine.{Call, reset, look, write, read, held, interrupt, pins, Gives, Machine, lent}
 use Rattle.demands.specs.Ours.{changing, asking, called}
 
@@ -58,10 +58,10 @@ usual = record { look = looked; write = wrote; read = readAll; bytes = bytesRead
 unfoldable pub calledBy : Effects → Module → Call → Gives Module
 calledBy e m reset = changing resetCall []
 calledBy e m (look s) = changing (outcome m (e .look m s) (lookNumber m s)) []
-calledBy e m (write a bs) = changing (outcome m (e .write m a bs) (writeNumber m a bs)) []
+calledBy e m (write a bs) = changing (accessed m (e .write m a bs) (writeNumber m a bs)) []
 calledBy e m (read a out) =
     let n = readNumber m a (length out) in
-    changing (outcome m (e .read m a (length out)) n) (e .bytes m a (length out) if eqb n 0 else out)
+    changing (accessed m (e .read m a (length out)) n) (e .bytes m a (length out) if eqb n 0 else out)
 calledBy e m (held row col) = asking (heldCall m row col)
 calledBy e m interrupt = asking (answer m (e .line m) (interruptNumber m))
 calledBy e m (pins x) = changing (outcome m (e .pins m x) (pinsNumber m x)) []
@@ -120,8 +120,8 @@ stuck = reading stays blankBytes
 unfoldable pub nothing : Module → List ℕ → Module
 nothing m s = m
 
-abbrev pub asleep : Machine
-asleep = looking nothing
+abbrev pub idle : Machine
+idle = looking nothing
 
 -- ---- "one that handles the first look and ignores later ones"
 -- the flag: a look was done
@@ -214,7 +214,7 @@ unfoldable pub takenFirst : Module → Call → Module
 takenFirst m reset = called m reset .next
 takenFirst m (look s) = called m (look s) .next
 takenFirst m (write a bs) = called m (write a bs) .next
-takenFirst m (read a out) = readAll m a (length out)
+takenFirst m (read a out) = let g = called m (read a out) in g .next if eqb (g .number) 0 else readAll m a (length out)
 takenFirst m (held row col) = called m (held row col) .next
 takenFirst m interrupt = called m interrupt .next
 takenFirst m (pins x) = called m (pins x) .next
@@ -253,14 +253,18 @@ emptied m a bs = quiet (wrote m a bs) if eqb a 0x08 else wrote m a bs
 abbrev pub emptying : Machine
 emptying = writing emptied
 
--- the number is told from the call alone, as it is given after reset, when the state is sound
+-- the state after reset, which is sound, asleep if m is
+unfoldable pub soundly : Module → Module
+soundly m = withSleep fresh (sleep 255 true) if m .asleep else fresh
+
+-- the number is told from the call and the sleep alone
 unfoldable pub trusted : Module → Call → Gives Module
 trusted m reset = changing resetCall []
 trusted m (look s) = changing (outcome m (looked m s) (lookNumber fresh s)) []
-trusted m (write a bs) = changing (outcome m (wrote m a bs) (writeNumber fresh a bs)) []
+trusted m (write a bs) = changing (accessed m (wrote m a bs) (writeNumber (soundly m) a bs)) []
 trusted m (read a out) =
-    let n = readNumber fresh a (length out) in
-    changing (outcome m (readAll m a (length out)) n) (bytesRead m a (length out) if eqb n 0 else out)
+    let n = readNumber (soundly m) a (length out) in
+    changing (accessed m (readAll m a (length out)) n) (bytesRead m a (length out) if eqb n 0 else out)
 trusted m (held row col) = asking (answer m (getD (m .held) (keyAt row col) false) (heldNumber fresh row col))
 trusted m interrupt = asking (answer m (line m) (interruptNumber fresh))
 trusted m (pins x) = changing (outcome m (sampling m x) (pinsNumber fresh x)) []

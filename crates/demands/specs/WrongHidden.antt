@@ -1,6 +1,6 @@
 -- WRONG MACHINES OF THE HIDDEN ROW: ours, but that a look takes other samples for those that exist. None meets the demands: proofs/RefutedHidden.antt.
 --
---    changesBy, contactsBy, lookedBy c    a look that makes of each key's contact what c says: its changes, its keys, the state after it
+--    changesBy, settlesBy, contactsBy, lookedBy c    a look that makes of each key's contact what c says: its changes, whether one is settling, its keys, the state after it
 --    showing f        a contact by its step, f telling what the look shows of it
 --    matrix k         key k is one of the matrix
 --    before           the panel before E3: nothing is hidden
@@ -23,8 +23,9 @@ use Rattle.contact.specs.declared.Contact.{Contact}
 use Rattle.contact.specs.declared.Sight.{Sight}
 use Rattle.contact.specs.Contact.{looks, stepped, sightOf}
 use Rattle.state.specs.declared.Module.{Module}
-use Rattle.state.specs.Module.{queueOf, withKeys, withQueue}
+use Rattle.state.specs.Module.{queueOf, sleepOf, withKeys, withQueue, withSleep}
 use Rattle.state.specs.Queue.{putAll}
+use Rattle.state.specs.Sleep.{counted}
 use Rattle.scan.specs.Scan.{contactAt, noticed}
 use Rattle.demands.specs.Machine.{Machine}
 use Rattle.demands.specs.Wrong.{looking}
@@ -33,8 +34,14 @@ unfoldable pub changesBy : (Module → List ℕ → ℕ → Contact) → Module 
 changesBy c m s zero = []
 changesBy c m s (suc k) = changesBy c m s k ++ ((code k (c m s k .held) ∷ []) if c m s k .changed else [])
 
+unfoldable pub settlesBy : (Module → List ℕ → ℕ → Contact) → Module → List ℕ → ℕ → Bool
+settlesBy c m s zero = false
+settlesBy c m s (suc k) = settlesBy c m s k || c m s k .settling
+
 unfoldable pub contactsBy : (Module → List ℕ → ℕ → Contact) → Module → List ℕ → Module
-contactsBy c m s = withKeys m (table (λ k. c m s k .held) 104) (table (λ k. c m s k .run) 104)
+contactsBy c m s =
+    withSleep (withKeys m (table (λ k. c m s k .held) 104) (table (λ k. c m s k .run) 104))
+    (counted (sleepOf m) (not (some (changesBy c m s 104)) && not (settlesBy c m s 104)))
 
 unfoldable pub lookedBy : (Module → List ℕ → ℕ → Contact) → Module → List ℕ → Module
 lookedBy c m s =
@@ -104,7 +111,7 @@ hidesItself = looking (lookedBy (showing withItself))
 -- the rule, asked of the samples that were there before
 unfoldable pub ripe : Module → List ℕ → ℕ → Contact
 ripe m s k =
-    record { held = not (getD (m .held) k false); run = 0; changed = true }
+    record { held = not (getD (m .held) k false); run = 0; changed = true; settling = false }
     if hidden s (m .size) k && leb (looks (m .bounce)) (getD (m .run) k 0)
     else contactAt m s k
 

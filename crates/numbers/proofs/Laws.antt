@@ -5,12 +5,14 @@
 --    declining l                    no line of the list l gives the number of a call that is done; declining-both: nor does one of two lists
 --    first-decides, rest-decides    of two lists the first declines the call; it passes the call on, and the rest decides
 --    line-false                     a call that is done has passed each of its lines
+--    lacks k l                      k is the number of no line of the list l, nor that of a call that is done; never-given: so they don't give it
 -- Assumes nothing.
 use Prim.Native.Nat.{ℕ}
 use mathlib.Core.Path.{_≡_, refl}
 use mathlib.Core.Logic.{inl, inr}
 use mathlib.Core.Bool.{Bool, true, false, not, _&&_, true≢false, false≢true, and-eq-true-iff}
 use mathlib.Core.List.{List, [], _∷_, _++_}
+use borrow.Author.Tests.{eqb-false, not-true}
 use lib.Dec.{eqb}
 use Rattle.numbers.specs.Numbers.{Line, _gives_, numberOf, Given, done}
 
@@ -87,3 +89,14 @@ line-false [] true n l d e = never-done true n l d e
 line-false [] false n l d e = refl
 line-false ((true gives j) ∷ k) b n l d e = never-done true j (k ++ (b gives n ∷ l)) d e
 line-false ((false gives j) ∷ k) b n l d e = line-false k b n l (rest-declining false j (k ++ (b gives n ∷ l)) d) e
+
+-- no line of the list gives k, nor does a call that is done
+unfoldable pub lacks : ℕ → List Line → Bool
+lacks k [] = not (eqb done k)
+lacks k ((b gives n) ∷ l) = not (eqb n k) && lacks k l
+
+pub never-given : (k : ℕ) (l : List Line) → lacks k l ≡ true → numberOf l ≡ k → ⊥
+unfolding lacks numberOf
+never-given k [] h e = eqb-false done k (not-true (eqb done k) h) e
+never-given k ((true gives n) ∷ l) h e = eqb-false n k (not-true (eqb n k) (and-eq-true-iff (not (eqb n k)) (lacks k l) .0 h .0)) e
+never-given k ((false gives n) ∷ l) h e = never-given k l (and-eq-true-iff (not (eqb n k)) (lacks k l) .0 h .1) e

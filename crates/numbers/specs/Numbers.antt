@@ -73,6 +73,10 @@ insideGroup = 25
 abbrev pub badPins : ℕ
 badPins = 26
 
+-- document 02, E7: "27 asleep"
+abbrev pub sleeping : ℕ
+sleeping = 27
+
 infix 70 _gives_
 pub data Line : Type 0 where
   _gives_ : Bool → ℕ → Line

@@ -47,3 +47,6 @@ pub const INSIDE_GROUP: u8 = 25;
 
 // Pin samples: some bit above 18 is set.
 pub const BAD_PINS: u8 = 26;
+
+// Access: the panel slept. This access woke it, and the next is judged as usual.
+pub const ASLEEP: u8 = 27;

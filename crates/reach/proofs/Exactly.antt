@@ -1,18 +1,23 @@
--- SOUND IS REACHED, no more and no less: a state of the struct's type is sound exactly when calls from reset reach the one with its keypad, and the pins as after reset.
+-- SOUND IS REACHED, no more and no less: a state of the struct's type is sound exactly when calls from reset reach the one with its keypad,
+-- awake, with a count of 0, and with the pins as after reset.
 --
 --    reached-by (proofs/Calls.antt)    that state is reached, if the given one is sound
 --    back             a reached state is sound, and of the struct's type
 --    sound-is-reached    both, as specs/Reach.antt has them
---    reached-itself   a sound state whose pins are as after reset is reached itself
+--    next-reached     one call more
+--    reached-itself   a sound state whose count is 0, and whose pins are as after reset, is reached itself
 --    unreached        a state that isn't sound is reached by no calls; unsound: one whose keypad no calls reach isn't sound
---    least            a test that never fails after calls from reset holds of every sound state with the pins as after reset
+--    least            a test that never fails after calls from reset holds of every sound state that is awake, with a count of 0, and with the pins as after reset
 --    onward           calls from a state that others reach are calls that come later
---    from-sound       so calls from a sound state with such pins are calls from reset that come later
+--    from-sound       so calls from such a state are calls from reset that come later
 -- Assumes nothing.
+use native.Mathlib.Omega.{arith}
 use mathlib.Core.Path.{_≡_, refl, sym, ap, _∙_, subst}
-use mathlib.Core.Bool.{Bool, true}
+use mathlib.Core.Bool.{Bool, true, false}
 use mathlib.Core.List.{List, [], _∷_, _++_}
 use Rattle.words.specs.Words.{all}
+use Rattle.words.proofs.Laws.{all-cons}
+use Rattle.words.proofs.Lists.{by-test}
 use Rattle.pins.specs.Pins as pins
 use Rattle.state.specs.declared.Module.{Module}
 use Rattle.state.specs.Module.{keypad}
@@ -21,7 +26,7 @@ use Rattle.sound.specs.Said.{Said}
 use Rattle.demands.specs.Machine as machine
 use Rattle.demands.specs.Machine.{Call, Machine}
 use Rattle.demands.specs.Table.{Unsound}
-use Rattle.demands.specs.Ours.{ours}
+use Rattle.demands.specs.Ours.{called, ours}
 use Rattle.demands.proofs.Reached.{reached-typed, reached-said}
 use Rattle.reach.specs.Reach.{callable, ReachedBy, SoundIsReached, afterFrom}
 use Rattle.reach.proofs.Apart.{as-after-reset}
@@ -36,8 +41,16 @@ back m r =
 pub sound-is-reached : SoundIsReached
 sound-is-reached = record { reached = reached-by; sound = back }
 
-pub reached-itself : (m : Module) → m .pins ≡ pins.fresh → Typed m → Said m → ReachedBy m
-reached-itself m p t s = subst ReachedBy (as-after-reset m p) (reached-by m t s)
+pub next-reached : (m : Module) (c : Call) → callable c ≡ true → ReachedBy m → ReachedBy (called m c .next)
+unfolding machine.after
+next-reached m c f r =
+    record { calls = c ∷ r .calls; types = all-cons callable c (r .calls) f (r .types); there = ap (λ (x : Module). called x c .next) (r .there) }
+
+-- with a count of 0 it is awake
+pub reached-itself : (m : Module) → m .pins ≡ pins.fresh → m .quiet ≡ 0 → Typed m → Said m → ReachedBy m
+reached-itself m p q t s =
+    let awake = by-test (λ b. b ≡ false) (m .asleep) (λ z. let full = s .sleeps z in absurd (omega arith)) (λ _. refl) in
+    subst ReachedBy (as-after-reset m p q awake) (reached-by m t s)
 
 pub unreached : (m : Module) → Unsound m → ReachedBy m → ⊥
 unreached m n r = n (back m r .1)

@@ -7,4 +7,5 @@ pub mod Only
 pub mod Apart
 pub mod Calls
 pub mod Exactly
+pub mod Resting
 pub mod Everywhere

@@ -1,16 +1,17 @@
--- EVERY SOUND STATE'S KEYPAD, with the pins as after reset, is one that the sheet writes down, for a past that calls can make.
+-- EVERY SOUND STATE'S KEYPAD, awake, with a count of 0, and with the pins as after reset, is one that the sheet writes down, for a past that calls can make.
 --
 --    marked-seen   the marks, as the state's four
 --    same-shown    the sheet's state, field by field
 --    codes         the codes that wait; known: and all else but KBDMSK and PORIRQ
---    only          THE WHOLE STATE, but for the pins
+--    only          THE WHOLE STATE, but for the pins, the count and the sleep
 -- Assumes nothing.
-use Prim.Native.Nat.{ℕ, _+_, _*_, _/_, _%_, _-_, _≤_, _<_}
+use Prim.Native.Nat.{ℕ, _+_, _*_, _/_, _%_, _-_, _≤_, _<_, min}
 use native.Mathlib.Omega.{arith}
 use mathlib.Core.Path.{_≡_, refl, sym, ap, _∙_, subst}
 use mathlib.Core.Bool.{Bool, true, false}
 use mathlib.Core.List.{List, [], _∷_, _++_, append-nil}
 use borrow.Author.Tests.{le-leb}
+use lib.Dec.{leb}
 use lib.ListN.{length, getD, take, drop, replicate, length-take, length-drop, length-replicate, getD-replicate, take-append-drop}
 use lib.Seq.{getD-take, getD-drop, ext-getD}
 use Rattle.words.specs.Words.{among, table, bit, without}
@@ -19,7 +20,8 @@ use Rattle.keys.specs.Keys.{keyIn}
 use Rattle.registers.specs.declared.Register.the-variants.{KBDMSK, RSTINTCLR}
 use Rattle.registers.specs.Registers.{_is_, address}
 use Rattle.sheet.specs.Sheet as sheet
-use Rattle.sheet.specs.Sheet.{Past, wrote, cleared, bounce, size, mask, history, held, waiting, relint, marks, rsint, rklint, porirq}
+use Rattle.sheet.specs.Sheet.{Past, wrote, cleared, bounce, size, mask, history, held, waiting, relint, marks, rsint, rklint, porirq, quietLooks, quiet, asleep}
+use Rattle.sheet.proofs.Sleep.{access-wakes}
 use Rattle.judge.specs.Lines.{byteFits}
 use Rattle.state.specs.declared.Module.{Module}
 use Rattle.state.specs.Module.{keypad}
@@ -69,10 +71,10 @@ marked-seen false false false false = refl
 same-shown : (past : Past) (m : Module) → table (λ k. held k past) 104 ≡ m .held → table (λ k. run k past) 104 ≡ m .run
     → places (waiting past) ≡ m .queue → length (waiting past) ≡ m .count → bounce past ≡ m .bounce → size past ≡ m .size → mask past ≡ m .mask
     → rsint past ≡ m .rsint → rklint past ≡ m .rklint → relint past ≡ m .relint → porirq past ≡ m .porirq → table (λ n. among n (marks past)) 4 ≡ m .seen
-    → doable past ≡ true → shown past ≡ keypad m
-unfolding shown
-same-shown past m h r q c b z k rs rk re p s d =
-    λ i. record { held = h i; run = r i; queue = q i; count = c i; bounce = b i; size = z i; mask = k i; rsint = rs i; rklint = rk i; relint = re i; porirq = p i; seen = s i; pins = no-pins past d i }
+    → quietLooks past ≡ 0 → doable past ≡ true → shown past ≡ keypad m
+unfolding shown quiet asleep
+same-shown past m h r q c b z k rs rk re p s y d =
+    λ i. record { held = h i; run = r i; queue = q i; count = c i; bounce = b i; size = z i; mask = k i; rsint = rs i; rklint = rk i; relint = re i; porirq = p i; seen = s i; quiet = min 255 (y i); asleep = leb 255 (y i); pins = no-pins past d i }
 
 module _ (m : Module) (y : Typed m) (s : Said m) where
   good : sound m ≡ true
@@ -168,7 +170,7 @@ module _ (m : Module) (y : Typed m) (s : Said m) where
           can,
           same-shown past′ m (by-table false (λ k. held k past′) 104 (m .held) (y .keys) (t .its-held)) (by-table 0 (λ k. run k past′) 104 (m .run) (y .runs) (t .its-run))
               (ap places (t .its-waiting) ∙ w-places) (ap length (t .its-waiting) ∙ w-long) (t .its-bounce) (t .its-size) (omega arith)
-              (f .its-rsint) (f .its-rklint) (f .its-relint) (t .its-porirq ∙ e) (ap (λ (x : List ℕ). table (λ n. among n x) 4) (f .its-marks) ∙ l-seen) can,
+              (f .its-rsint) (f .its-rklint) (f .its-relint) (t .its-porirq ∙ e) (ap (λ (x : List ℕ). table (λ n. among n x) 4) (f .its-marks) ∙ l-seen) (access-wakes KBDMSK (m .mask) past .0) can,
         ),
       )
   ended false e (past, (t, f)) =
@@ -180,7 +182,7 @@ module _ (m : Module) (y : Typed m) (s : Said m) where
           can,
           same-shown past′ m (by-table false (λ k. held k past′) 104 (m .held) (y .keys) (t .its-held)) (by-table 0 (λ k. run k past′) 104 (m .run) (y .runs) (t .its-run))
               (ap places (t .its-waiting) ∙ w-places) (ap length (t .its-waiting) ∙ w-long) (t .its-bounce) (t .its-size) (omega arith)
-              (f .its-rsint) (f .its-rklint) (f .its-relint) e (ap (λ (x : List ℕ). table (λ n. among n x) 4) (f .its-marks) ∙ l-seen) can,
+              (f .its-rsint) (f .its-rklint) (f .its-relint) e (ap (λ (x : List ℕ). table (λ n. among n x) 4) (f .its-marks) ∙ l-seen) (access-wakes RSTINTCLR 1 (wrote KBDMSK (m .mask) ∷ past) .0) can,
         ),
       )
 

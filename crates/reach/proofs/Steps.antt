@@ -23,7 +23,7 @@ use native.Mathlib.Decide.{decLt, ℕ-discrete}
 use mathlib.Core.Path.{_≡_, refl, sym, ap, _∙_}
 use mathlib.Core.Bool.{Bool, true, false, not, _&&_, cond}
 use mathlib.Core.List.{List, [], _∷_, _++_, append-nil}
-use borrow.Author.Tests.{eq-eqb}
+use borrow.Author.Tests.{eq-eqb, lt-ltb}
 use lib.Dec.{eqb, leb, ltb}
 use lib.ListN.{length, take}
 use Rattle.words.specs.Words.{all}
@@ -113,7 +113,7 @@ none _ = 0
 
 -- ---- a contact, with the smallest and the largest KBDBOUNCE
 at-once : Bool → Bool → Contact
-at-once held s = record { held = s; run = 0; changed = opposite held s }
+at-once held s = record { held = s; run = 0; changed = opposite held s; settling = false }
 
 -- if it is hidden, b, it is so already
 quick : (b held s : Bool) → (b ≡ true → held ≡ s) → stepped held 0 (sightOf b s) 1 ≡ at-once held s
@@ -127,9 +127,9 @@ quick false false false e = refl
 quick false true false e = rw (reached 1 0 (omega arith)) refl
 quick false false true e = rw (reached 1 0 (omega arith)) refl
 
--- it stays as it is held
+-- it stays as it is held, and settles if it has a run
 unfoldable pub calm : Bool → ℕ → Contact
-calm held run = record { held = held; run = run; changed = false }
+calm held run = record { held = held; run = run; changed = false; settling = ltb 0 run }
 
 pub unseen : (held : Bool) (run : ℕ) (s : Bool) (d : ℕ) → stepped held run (sightOf true s) d ≡ calm held run
 unfolding sightOf calm
@@ -140,8 +140,8 @@ pub slow : (held : Bool) (run : ℕ) (s : Bool) → (opposite held s ≡ true �
 unfolding stepped sightOf sampled opposite calm
 slow true run true h = refl
 slow false run false h = refl
-slow true run false h = rw (ahead 255 run (h refl)) refl
-slow false run true h = rw (ahead 255 run (h refl)) refl
+slow true run false h = rw (ahead 255 run (h refl), lt-ltb 0 (run + 1) (omega arith)) refl
+slow false run true h = rw (ahead 255 run (h refl), lt-ltb 0 (run + 1) (omega arith)) refl
 
 -- ---- the changes of a look
 module _ (s : List ℕ) (past : Past) where

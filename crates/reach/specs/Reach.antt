@@ -1,9 +1,11 @@
--- What is meant by: a state is reached by calls from reset. Every sound state is, but for its pins: calls reach the one with its keypad, and the pins as after reset.
+-- What is meant by: a state is reached by calls from reset. Every sound state is, but for its pins, its count and its sleep: calls reach the one with its keypad,
+-- awake, with a count of 0, and with the pins as after reset.
 -- Not every state of the pins is reached, and soundness asks nothing of them: no size frees pins 0, 1, 8 and 9, so their edges are never pending after calls.
+-- Nor is every count, with keys that have a run: of the sound states with such pins those are reached that have a count of 0, or no run (proofs/Resting.antt).
 --
 --    callable c         the values of a call are of their types: samples u16, of pins u32; addresses, bytes, rows and columns u8
 --    ReachedBy m        calls from reset that end in the state m
---    SoundIsReached     THE THEOREM: of every sound state the keypad is reached, with the pins as after reset; and what is reached is sound
+--    SoundIsReached     THE THEOREM: of every sound state the keypad is reached, awake, with a count of 0, and with the pins as after reset; and what is reached is sound
 --    Shows m past       demand 2 of one state: its bytes, held keys and line are the sheet's for a past
 --    afterFrom M σ cs   the state after calls, newest first, that begin in the state σ
 use Prim.Native.Nat.{ℕ, _+_, _*_, _≤_}
@@ -38,7 +40,7 @@ pub record ReachedBy (m : Module) : Type 0 where
   pub types : all callable calls ≡ true
   pub there : after ours calls ≡ m
 
--- `keypad m` is m itself if its pins are as after reset
+-- `keypad m` is m itself if it is awake, with a count of 0, and with the pins as after reset
 pub record SoundIsReached : Type 0 where
   pub reached : (m : Module) → Typed m → Said m → ReachedBy (keypad m)
   pub sound : (m : Module) → ReachedBy m → Typed m × Said m

@@ -1,5 +1,6 @@
 -- The code's walk over the keys, row by row.
 --
+--    moved-key            what a look does to one key
 --    hidden-same          a key that is hidden leaves all as it is
 --    first-low            the first key that is shown is one of the row
 --    row-none, row-next   a row before the first key that is shown, and from one key to the next
@@ -10,32 +11,45 @@
 --    done-rest            the rows out of the size are still
 --    done-all             after the last key this is the state after the look
 --    walked               so it is after the rows of the size
+--    runs-none, runs-next, runs-all    some key has a run: before the first key, from one to the next, and after the last
+--    settles-runs         some contact is settling after a look exactly if some key has a run then
+--    after m p z          the state m with these parts, and with this count and sleep
 -- Assumes nothing.
 use Prim.Native.Nat.{ℕ, zero, suc, _+_, _-_, _*_, _/_, _<_, _≤_}
 use native.Mathlib.Numerals.{add-one, unary-clauses}
 use native.Mathlib.Omega.{arith}
 use native.Mathlib.Decide.{decLt}
 use mathlib.Core.Path.{_≡_, refl, sym, ap, _∙_}
-use mathlib.Core.Bool.{Bool, true, false, _&&_, cond, or-false, and-false}
+use mathlib.Core.Bool.{Bool, true, false, not, _&&_, _||_, cond, or-false, and-false}
 use mathlib.Core.List.{List}
 use lib.ListN.{length, getD, set}
 use lib.Seq.{set-getD}
-use borrow.Author.Tests.{lt-ltb, le-ltb}
-use lib.Dec.{ltb}
-use Rattle.words.specs.Words.{_if_, _else_, some, table}
+use borrow.Author.Tests.{lt-ltb, le-ltb, ne-eqb}
+use lib.Dec.{ltb, eqb}
+use Rattle.words.specs.Words.{_if_, _else_, some, allBelow, table}
 use Rattle.words.proofs.Lists.{by-test}
-use Rattle.words.proofs.Tables.{replaced, replaced-none, replaced-all, replaced-at, replaced-next}
+use Rattle.words.proofs.Tables.{table-at, replaced, replaced-none, replaced-all, replaced-at, replaced-next}
 use Rattle.keys.specs.Keys.{code, inSize, keyIn, sample, hidden}
 use Rattle.keys.proofs.Laws.{place-row, place-col, row-yes, hidden-matrix, hidden-special}
+use Rattle.contact.specs.declared.Moved.{Moved}
 use Rattle.contact.specs.declared.Sight.{Sight}
 use Rattle.contact.specs.declared.Sight.the-variants.{Hidden}
-use Rattle.contact.specs.Contact.{stepped, sightOf}
+use Rattle.contact.specs.Contact.{moved, stepped, sightOf}
+use Rattle.contact.proofs.Laws.{step-settling}
 use Rattle.state.specs.declared.Module.{Module}
-use Rattle.state.specs.Module.{Queue, queueOf, withKeys, withQueue}
+use Rattle.state.specs.Module.{Queue, Sleep, queueOf, sleepOf, withKeys, withQueue, withSleep}
 use Rattle.state.specs.Queue.{put, putAll}
-use Rattle.scan.specs.Scan.{sight, contactAt, changesBelow, changes, contacts, noticed, looked}
-use Rattle.scan.specs.Walk.{Parts, parts, counted, shows, firstShown, became, atKey, atRow, atRows, Still}
-use Rattle.scan.proofs.Laws.{out-rests, changed-sample, below-queue, below-some, looked-noticed}
+use Rattle.state.specs.Sleep as asleep
+use Rattle.scan.specs.Scan.{sight, contactAt, changesBelow, changes, settlesBelow, calm, contacts, noticed, looked}
+use Rattle.scan.specs.Walk.{Parts, parts, counted, shows, firstShown, became, atKey, atRow, atRows, runs, Still}
+use Rattle.scan.proofs.Laws.{out-rests, changed-sample, below-queue, below-some, calm-stirred, looked-noticed}
+
+-- what a look needs of a key's test is enough
+pub moved-key : (d k : ℕ) (o : Sight) (p : Parts) (x : Moved) → x ≡ moved (stepped (getD (p .held) k false) (getD (p .run) k 0) o d)
+    → atKey d k o p ≡ parts (set (p .held) k (x .held)) (set (p .run) k (x .run)) (put (p .queue) (code k (x .held)) if x .changed else p .queue) (p .any || x .changed)
+unfolding atKey moved
+moved-key d k o p x e =
+    sym (ap (λ (y : Moved). parts (set (p .held) k (y .held)) (set (p .run) k (y .run)) (put (p .queue) (code k (y .held)) if y .changed else p .queue) (p .any || y .changed)) e)
 
 hidden-same : (d k : ℕ) (p : Parts) → atKey d k Hidden p ≡ p
 unfolding atKey stepped
@@ -79,6 +93,57 @@ module _ (d size : ℕ) (s : List ℕ) (p : Parts) where
   pub rows-next : (row : ℕ) {q r : Parts} → q ≡ atRows d size s p row → r ≡ atRow d size (getD s row 0) row q 13 → r ≡ atRows d size s p (row + 1)
   unfolding atRows
   rows-next row e f = rw (add-one row) (f ∙ ap (λ (o : Parts). atRow d size (getD s row 0) row o 13) e)
+
+-- ---- settling
+not-and : (a b : Bool) → not (a && b) ≡ (not a || not b)
+not-and true b = refl
+not-and false b = refl
+
+has-run : (n : ℕ) → ltb 0 n ≡ not (eqb n 0)
+has-run zero = refl
+has-run (suc n) = lt-ltb 0 (suc n) (omega arith) ∙ ap not (sym (ne-eqb (suc n) 0 (λ e. omega arith)))
+
+-- the keys below n have no run
+abbrev pub restBelow : List ℕ → ℕ → Bool
+restBelow run n = allBelow (λ k. eqb (getD run k 0) 0) n
+
+module _ (run : List ℕ) where
+  pub runs-none : false ≡ not (restBelow run 0)
+  unfolding allBelow
+  runs-none = refl
+
+  pub runs-next : (n : ℕ) {b c : Bool} → b ≡ not (restBelow run n) → c ≡ (b || ltb 0 (getD run n 0)) → c ≡ not (restBelow run (n + 1))
+  unfolding allBelow
+  runs-next n e f = f ∙ (λ i. e i || has-run (getD run n 0) i) ∙ sym (rw (add-one n) (not-and (restBelow run n) (eqb (getD run n 0) 0)))
+
+  pub runs-all : {n : ℕ} {b : Bool} → b ≡ not (restBelow run n) → n ≡ 104 → b ≡ runs run
+  unfolding runs
+  runs-all e all = e ∙ ap (λ (n : ℕ). not (restBelow run n)) all
+
+module _ (m : Module) (s : List ℕ) where
+  -- after the look
+  abbrev runsThen : List ℕ
+  runsThen = table (λ k. contactAt m s k .run) 104
+
+  settling-run : (k : ℕ) → k < 104 → contactAt m s k .settling ≡ ltb 0 (getD runsThen k 0)
+  unfolding contactAt
+  settling-run k h =
+      step-settling (getD (m .held) k false) (getD (m .run) k 0) (sight s (m .size) k) (m .bounce) ∙ ap (ltb 0) (sym (table-at (λ j. contactAt m s j .run) 104 k 0 h))
+
+  settles-below : (n : ℕ) → n ≤ 104 → settlesBelow m s n ≡ not (restBelow runsThen n)
+  unfolding settlesBelow
+  settles-below zero l = runs-none runsThen
+  settles-below (suc k) l =
+      runs-next runsThen k (settles-below k (omega arith)) (ap (λ (b : Bool). settlesBelow m s k || b) (settling-run k (omega arith)))
+      ∙ ap (λ (n : ℕ). not (restBelow runsThen n)) (add-one k)
+
+  pub settles-runs : settlesBelow m s 104 ≡ runs runsThen
+  unfolding runs
+  settles-runs = settles-below 104 (omega arith)
+
+-- ---- the keys below k are done
+abbrev after : Module → Parts → Sleep → Module
+after m p z = withSleep (withQueue (withKeys m (p .held) (p .run)) (p .queue)) z
 
 abbrev done : Module → List ℕ → ℕ → Parts
 done m s k = parts (replaced (λ j. contactAt m s j .held) k (m .held)) (replaced (λ j. contactAt m s j .run) k (m .run)) (putAll (queueOf m) (changesBelow m s k)) (some (changesBelow m s k))
@@ -146,7 +211,7 @@ module _ (m : Module) (s : List ℕ) where
       unfolding keyIn inSize
       out = rw (row-yes k h, le-ltb (k / 13) (m .size / 16) (omega arith))
 
-      at-rest : contactAt m s k ≡ record { held = false; run = 0; changed = false }
+      at-rest : contactAt m s k ≡ record { held = false; run = 0; changed = false; settling = false }
       at-rest = out-rests m s k out (still .keys k h out .0) (still .keys k h out .1)
 
       done-still : done m s k ≡ done m s (k + 1)
@@ -173,17 +238,27 @@ module _ (m : Module) (s : List ℕ) where
     unfolding changes
     done-parts = e ∙ ap (done m s) all ∙ (λ i. parts (replaced-all (λ j. contactAt m s j .held) (m .held) 104 long-held i) (replaced-all (λ j. contactAt m s j .run) (m .run) 104 long-run i) (putAll (queueOf m) (changesBelow m s 104)) (some (changesBelow m s 104)))
 
-    done-state : withQueue (withKeys m (p .held) (p .run)) (p .queue) ≡ withQueue (contacts m s) (putAll (queueOf m) (changes m s))
+    done-state : (z : Sleep) → z ≡ asleep.counted (sleepOf m) (calm m s) → after m p z ≡ withQueue (contacts m s) (putAll (queueOf m) (changes m s))
     unfolding contacts
-    done-state = ap (λ (o : Parts). withQueue (withKeys m (o .held) (o .run)) (o .queue)) done-parts
+    done-state z f = λ i. after m (done-parts i) (f i)
 
-    done-all : (b : Bool) → p .any ≡ b → (noticed (withQueue (withKeys m (p .held) (p .run)) (p .queue)) if b else withQueue (withKeys m (p .held) (p .run)) (p .queue)) ≡ looked m s
-    done-all b f = ap (λ (n : Module). noticed n if b else n) done-state ∙ sym (looked-noticed m s b (sym (ap (λ (o : Parts). o .any) done-parts) ∙ f))
+    done-any : (b : Bool) → p .any ≡ b → some (changes m s) ≡ b
+    done-any b f = sym (ap (λ (o : Parts). o .any) done-parts) ∙ f
+
+    -- the count goes by change and runs
+    done-calm : (b : Bool) → p .any ≡ b → calm m s ≡ not (b || runs (p .run))
+    done-calm b f =
+        calm-stirred m s b (done-any b f)
+        ∙ ap (λ (t : Bool). not (b || t)) (settles-runs m s ∙ ap (λ (o : Parts). runs (o .run)) (sym done-parts))
+
+    done-all : (b : Bool) → p .any ≡ b → (z : Sleep) → z ≡ asleep.counted (sleepOf m) (not (b || runs (p .run))) → (noticed (after m p z) if b else after m p z) ≡ looked m s
+    done-all b f z g =
+        ap (λ (n : Module). noticed n if b else n) (done-state z (g ∙ ap (asleep.counted (sleepOf m)) (sym (done-calm b f)))) ∙ sym (looked-noticed m s b (done-any b f))
 
   module _ (still : Still (m .size) (m .held) (m .run)) (long-held : length (m .held) ≡ 104) (long-run : length (m .run) ≡ 104) where
     pub walked : {p : Parts} → p ≡ atRows (m .bounce) (m .size) s (parts (m .held) (m .run) (queueOf m) false) (m .size / 16)
-        → (b : Bool) → p .any ≡ b → (noticed (withQueue (withKeys m (p .held) (p .run)) (p .queue)) if b else withQueue (withKeys m (p .held) (p .run)) (p .queue)) ≡ looked m s
-    walked e b f =
+        → (b : Bool) → p .any ≡ b → {z : Sleep} → z ≡ asleep.counted (sleepOf m) (not (b || runs (p .run))) → (noticed (after m p z) if b else after m p z) ≡ looked m s
+    walked e b f {z} g =
         let rows = m .size / 16 in
         let all = e ∙ ap (λ (o : Parts). atRows (m .bounce) (m .size) s o rows) done-none ∙ done-rows long-held long-run rows (still .rows) in
-        done-all (done-rest still long-held long-run rows refl all) refl long-held long-run b f
+        done-all (done-rest still long-held long-run rows refl all) refl long-held long-run b f z g

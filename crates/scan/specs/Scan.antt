@@ -4,11 +4,13 @@
 --    contactAt m s k     what the look makes of it
 --    changesBelow m s n  the codes of the changes of the keys below n, by row, then by column
 --    changes m s         the codes of all the look's changes
---    contacts m s        the state with every key's contact as the look makes it
+--    settlesBelow m s n  some key below n has a contact that is settling after the look
+--    calm m s            the look is quiet: no change, no contact settling
+--    contacts m s        the state with every key's contact as the look makes it, and the look counted
 --    noticed m           what a look with at least one change does to the flags
 --    looked m s          the state after the look
 use Prim.Native.Nat.{ℕ, zero, suc}
-use mathlib.Core.Bool.{true, false, _||_}
+use mathlib.Core.Bool.{Bool, true, false, not, _&&_, _||_}
 use mathlib.Core.List.{List, [], _∷_, _++_}
 use lib.ListN.{getD}
 use Rattle.words.specs.Words.{_if_, _else_, some, table}
@@ -17,8 +19,9 @@ use Rattle.contact.specs.declared.Contact.{Contact}
 use Rattle.contact.specs.declared.Sight.{Sight}
 use Rattle.contact.specs.Contact.{stepped, sightOf}
 use Rattle.state.specs.declared.Module.{Module}
-use Rattle.state.specs.Module.{forgotten, queueOf, withKeys, withQueue, withRsint, withRklint, withSeen}
+use Rattle.state.specs.Module.{forgotten, queueOf, sleepOf, withKeys, withQueue, withRsint, withRklint, withSeen, withSleep}
 use Rattle.state.specs.Queue.{putAll}
+use Rattle.state.specs.Sleep.{counted}
 
 unfoldable pub sight : List ℕ → ℕ → ℕ → Sight
 sight s size k = sightOf (hidden s size k) (sample s size k)
@@ -34,9 +37,17 @@ changesBelow m s (suc k) = changesBelow m s k ++ ((code k (sample s (m .size) k)
 unfoldable pub changes : Module → List ℕ → List ℕ
 changes m s = changesBelow m s 104
 
+unfoldable pub settlesBelow : Module → List ℕ → ℕ → Bool
+settlesBelow m s zero = false
+settlesBelow m s (suc k) = settlesBelow m s k || contactAt m s k .settling
+
+-- document 02, E7: "with no change, no settling"
+unfoldable pub calm : Module → List ℕ → Bool
+calm m s = not (some (changes m s)) && not (settlesBelow m s 104)
+
 -- "The key counts as changed either way." [its change queued or dropped]
 unfoldable pub contacts : Module → List ℕ → Module
-contacts m s = withKeys m (table (λ k. contactAt m s k .held) 104) (table (λ k. contactAt m s k .run) 104)
+contacts m s = withSleep (withKeys m (table (λ k. contactAt m s k .held) 104) (table (λ k. contactAt m s k .run) 104)) (counted (sleepOf m) (calm m s))
 
 -- "if RSINT is already set, set RKLINT; set RSINT; forget which picture registers were read"
 unfoldable pub noticed : Module → Module

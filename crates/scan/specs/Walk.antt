@@ -7,24 +7,25 @@
 --    atKey d k sight p            the parts p after a look at key k, d being the bounce
 --    atRow d size x row p n       the parts p after the row's keys in columns below n
 --    atRows d size s p n          the parts p after the rows below n, s being the samples
---    Altered, altered h r q rs rk seen    all that a look can alter: the parts, but for whether a key has changed, and the flags and marks
+--    runs run                     some key has a run
+--    Altered, altered h r q rs rk seen z  all that a look can alter: keys, queue, flags, marks, the count and the sleep
 --    whole d size a mask porirq pins   the module that has these
 --    LookedOn d size s a b        a look with the samples s makes b of a, whatever the mask, PORIRQ and the pins, which it neither asks nor alters
 --    Still size held run          every key out of the size is open and has no run, and there are at most 8 rows
 use Prim.Native.Nat.{ℕ, zero, suc, _+_, _*_, _/_, _≤_, _<_}
 use mathlib.Core.Path.{_≡_}
-use mathlib.Core.Bool.{Bool, false, _&&_, _||_}
+use mathlib.Core.Bool.{Bool, false, not, _&&_, _||_}
 use mathlib.Core.List.{List}
 use lib.ListN.{getD, set}
-use lib.Dec.{ltb}
-use Rattle.words.specs.Words.{_if_, _else_, bit}
+use lib.Dec.{ltb, eqb}
+use Rattle.words.specs.Words.{_if_, _else_, allBelow, bit}
 use Rattle.keys.specs.Keys.{code, inSize, keyIn}
 use Rattle.contact.specs.declared.Contact.{Contact}
 use Rattle.contact.specs.declared.Sight.{Sight}
 use Rattle.contact.specs.Contact.{stepped, sightOf}
 use Rattle.pins.specs.declared.Pins.{Pins}
 use Rattle.state.specs.declared.Module.{Module}
-use Rattle.state.specs.Module.{Queue, keys, settings, flags, made}
+use Rattle.state.specs.Module.{Queue, Sleep, keys, settings, flags, made}
 use Rattle.state.specs.Queue.{put}
 use Rattle.scan.specs.Scan.{looked}
 
@@ -63,6 +64,10 @@ unfoldable pub atRows : ℕ → ℕ → List ℕ → Parts → ℕ → Parts
 atRows d size s p zero = p
 atRows d size s p (suc row) = atRow d size (getD s row 0) row (atRows d size s p row) 13
 
+-- a contact is settling exactly if it has a run
+unfoldable pub runs : List ℕ → Bool
+runs run = not (allBelow (λ k. eqb (getD run k 0) 0) 104)
+
 pub record Altered : Type 0 where
   pub held : List Bool
   pub run : List ℕ
@@ -70,12 +75,15 @@ pub record Altered : Type 0 where
   pub rsint : Bool
   pub rklint : Bool
   pub seen : List Bool
+  pub sleep : Sleep
 
-abbrev pub altered : List Bool → List ℕ → Queue → Bool → Bool → List Bool → Altered
-altered held run queue rsint rklint seen = record { held = held; run = run; queue = queue; rsint = rsint; rklint = rklint; seen = seen }
+abbrev pub altered : List Bool → List ℕ → Queue → Bool → Bool → List Bool → Sleep → Altered
+altered held run queue rsint rklint seen sleep =
+    record { held = held; run = run; queue = queue; rsint = rsint; rklint = rklint; seen = seen; sleep = sleep }
 
 abbrev pub whole : ℕ → ℕ → Altered → ℕ → Bool → Pins → Module
-whole d size a mask porirq pins = made (keys (a .held) (a .run)) (a .queue) (settings d size mask) (flags (a .rsint) (a .rklint) porirq (a .seen)) pins
+whole d size a mask porirq pins =
+    made (keys (a .held) (a .run)) (a .queue) (settings d size mask) (flags (a .rsint) (a .rklint) porirq (a .seen)) pins (a .sleep)
 
 unfoldable pub LookedOn : ℕ → ℕ → List ℕ → Altered → Altered → Type 0
 LookedOn d size s a b = (mask : ℕ) (porirq : Bool) (pins : Pins) → whole d size b mask porirq pins ≡ looked (whole d size a mask porirq pins) s

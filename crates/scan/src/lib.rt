@@ -13,7 +13,7 @@ ghost use mathlib.Core.Bool.{false};
 ghost use Prim.Native.Nat.{_<_, _≤_, _+_, _*_, _/_};
 ghost use lib.ListN.{length};
 ghost use Rattle.contact.specs.Contact.{sightOf};
-ghost use Rattle.state.specs.Module.{queue};
+ghost use Rattle.state.specs.Module.{queue, sleep};
 ghost use Rattle.scan.specs.Scan.{looked};
 ghost use Rattle.scan.specs.Walk as walk;
 ghost use Rattle.scan.specs.Walk.{parts, altered};
@@ -73,7 +73,7 @@ fn look_at(
     let r = row.0;
     let c = col.0;
     let key = ROW_KEYS * (r as usize) + (c as usize);
-    let x = contact::step(held[key], run[key], sight, bounce);
+    let x = contact::follow(held[key], run[key], sight, bounce);
     held[key] = x.held;
     run[key] = x.run;
     let changed = x.changed;
@@ -161,7 +161,20 @@ fn look_at_rows(
     }
 }
 
-// What one look does to the parts of a module that it can alter: keys, queue, flags and marks.
+// Is some contact settling: has some key a run? All keys are asked, without a way out, so that many are asked at once.
+fn is_settling(run: &[u8; KEYS]) -> bool
+    ensures { λ r. ⌜ r ≡ walk.runs (now (run .entry)) ⌝ }
+{
+    let mut settling = false;
+    let mut key: usize = 0;
+    while key < KEYS {
+        settling = settling | (0 < run[key]);
+        key = key + 1;
+    }
+    settling
+}
+
+// What one look does to the parts of a module that it can alter: keys, queue, flags, marks, the count and the sleep.
 pub fn look_on(
     held: &mut [bool; KEYS],
     run: &mut [u8; KEYS],
@@ -171,6 +184,8 @@ pub fn look_on(
     rsint: &mut bool,
     rklint: &mut bool,
     seen: &mut [bool; 4],
+    quiet: &mut u8,
+    asleep: &mut bool,
     samples: &[u16],
     size: u8,
     bounce: u8,
@@ -178,9 +193,9 @@ pub fn look_on(
     requires { ⌜ (length (now samples) ≡ 8) × (length (now held) ≡ 104) × (length (now run) ≡ 104) × walk.Still size (now held) (now run) ⌝ }
     ensures { λ _. ⌜ walk.LookedOn bounce size (now (samples .entry))
         (altered (now (held .entry)) (now (run .entry)) (queue (now (places .entry)) (now (count .entry)) (now (relint .entry)))
-        (now (rsint .entry)) (now (rklint .entry)) (now (seen .entry)))
+        (now (rsint .entry)) (now (rklint .entry)) (now (seen .entry)) (sleep (now (quiet .entry)) (now (asleep .entry))))
         (altered (now (held .exit)) (now (run .exit)) (queue (now (places .exit)) (now (count .exit)) (now (relint .exit)))
-        (now (rsint .exit)) (now (rklint .exit)) (now (seen .exit))) ⌝ }
+        (now (rsint .exit)) (now (rklint .exit)) (now (seen .exit)) (sleep (now (quiet .exit)) (now (asleep .exit)))) ⌝ }
 {
     let mut any = false;
     look_at_rows(
@@ -198,8 +213,10 @@ pub fn look_on(
         *rklint = *rklint | *rsint;
         *rsint = true;
         *seen = [false; 4];
+        state::sleep::count(quiet, asleep, true);
         return;
     }
+    state::sleep::count(quiet, asleep, is_settling(run));
 }
 
 // What one look does to a module.
@@ -215,6 +232,8 @@ pub fn looked(m: Module, samples: &[u16]) -> Module
     let mut rsint = m.rsint;
     let mut rklint = m.rklint;
     let mut seen = m.seen;
+    let mut quiet = m.quiet;
+    let mut asleep = m.asleep;
     look_on(
         &mut held,
         &mut run,
@@ -224,6 +243,8 @@ pub fn looked(m: Module, samples: &[u16]) -> Module
         &mut rsint,
         &mut rklint,
         &mut seen,
+        &mut quiet,
+        &mut asleep,
         samples,
         m.size,
         m.bounce,
@@ -237,5 +258,7 @@ pub fn looked(m: Module, samples: &[u16]) -> Module
     after.rsint = rsint;
     after.rklint = rklint;
     after.seen = seen;
+    after.quiet = quiet;
+    after.asleep = asleep;
     after
 }

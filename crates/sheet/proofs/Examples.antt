@@ -6,6 +6,7 @@
 --    Changes, Clearing       what a look with a change does to the flags; what clears them
 --    Restarts                what a restart clears and what stays
 --    FootSwitch, Lamp        a spare pin that is watched, and one that is driven
+--    Quiet, Settling, Wakes  a look that is quiet, one that isn't, and what breaks the row
 --    examples-right          all of it is so
 -- Assumes nothing.
 use Prim.Native.Nat.{ℕ}
@@ -15,7 +16,7 @@ use mathlib.Core.List.{List, [], _∷_, _++_}
 use lib.ListN.{replicate, drop}
 use Rattle.registers.specs.declared.Register.{Register}
 use Rattle.registers.specs.declared.Register.the-variants.{KBDBOUNCE, KBDSIZE, KBDRIS, KBDMIS, KBDIC, KBDMSK, KBDCODE, EVTCODE, RSTINTCLR, PIN}
-use Rattle.sheet.specs.Sheet.{Happening, Past, looked, wrote, got, beside, sampled, held, waiting, driven, levels, line, byteOf}
+use Rattle.sheet.specs.Sheet.{Happening, Past, looked, wrote, got, beside, sampled, refused, held, waiting, driven, levels, line, byteOf, quiet, asleep}
 use Rattle.sheet.proofs.Opened.{opened}
 use Rattle.sheet.specs.Ledger.{taken, lost, arrivals}
 
@@ -149,7 +150,45 @@ Lamp =
     × (driven (wrote (PIN 0xE4) 0x04 ∷ wrote KBDSIZE 0x8A ∷ lit) ≡ 0)
     × (driven (wrote (PIN 0xE5) 0x04 ∷ wrote (PIN 0xE4) 0x04 ∷ wrote KBDSIZE 0x8A ∷ lit) ≡ 0x40000)
 
-examples-right : P6 × P7 × P8 × P10 × Losses × P12 × Changes × Clearing × Restarts × FootSwitch × Lamp
+-- a look with every contact open, and one with the special function contact of row 1 closed
+abbrev calmLook : Happening
+calmLook = look 0 0 0 0
+
+abbrev jog : Happening
+jog = look 0 0x1000 0 0
+
+-- Document 02, E7: "The module sleeps after 255 looks in a row [..] with no change, no settling and no done access between them": counted from reset on
+abbrev Quiet : Type 0
+Quiet =
+    (quiet [] ≡ 0)
+    × (quiet (calmLook ∷ calmLook ∷ calmLook ∷ []) ≡ 3)
+    × (asleep (calmLook ∷ calmLook ∷ calmLook ∷ []) ≡ false)
+
+-- "settling: its newest existing sample differs from what it is held as": KBDBOUNCE is 3, so row 1 column 1 changes at its third closed look.
+-- Half pressed and then hidden by the special function key of its row, it settles on; without it, the look after that key's change is quiet
+abbrev Settling : Type 0
+Settling =
+    let changing = key11 ∷ key11 ∷ key11 ∷ calmLook ∷ calmLook ∷ [] in
+    let believed = jog ∷ jog ∷ jog ∷ [] in
+    (quiet (key11 ∷ calmLook ∷ calmLook ∷ []) ≡ 0)
+    × (quiet changing ≡ 0)
+    × (quiet (key11 ∷ changing) ≡ 1)
+    × (quiet (calmLook ∷ key11 ∷ changing) ≡ 0)
+    × (quiet (jog ∷ believed) ≡ 1)
+    × (quiet (jog ∷ jog ∷ believed ++ key11 ∷ []) ≡ 0)
+
+-- "no done access between them"; "An access is declined once and wakes it"; "A restart wakes it. Waking sets the count to 0."
+abbrev Wakes : Type 0
+Wakes =
+    let two = calmLook ∷ calmLook ∷ [] in
+    (quiet (got KBDRIS ∷ two) ≡ 0)
+    × (quiet (calmLook ∷ got KBDRIS ∷ two) ≡ 1)
+    × (quiet (calmLook ∷ wrote KBDMSK 0 ∷ two) ≡ 1)
+    × (quiet (calmLook ∷ wrote KBDSIZE 0x22 ∷ two) ≡ 1)
+    × (quiet (calmLook ∷ beside refused ∷ two) ≡ 1)
+    × (quiet (calmLook ∷ beside (sampled 1) ∷ two) ≡ 3)
+
+examples-right : P6 × P7 × P8 × P10 × Losses × P12 × Changes × Clearing × Restarts × FootSwitch × Lamp × Quiet × Settling × Wakes
 unfolding opened
 examples-right = (
   (refl, refl),
@@ -163,4 +202,7 @@ examples-right = (
   (refl, refl, refl, refl),
   (refl, refl, refl, refl, refl, refl, refl, refl, refl, refl, refl),
   (refl, refl, refl, refl, refl, refl, refl),
+  (refl, refl, refl),
+  (refl, refl, refl, refl, refl, refl),
+  (refl, refl, refl, refl, refl, refl),
 )

@@ -7,5 +7,6 @@ pub mod Replay
 pub mod Loss
 pub mod Sizes
 pub mod Pins
+pub mod Sleep
 pub mod Examples
 pub mod Opened

@@ -5,7 +5,7 @@ use Rattle.contact.proofs.Opened as contact
 use Rattle.registers.proofs.Opened as registers
 use Rattle.pins.specs.Rules as pins
 use Rattle.sheet.specs.Ledger.{codeGot, taken, room, arriving, codes, kept, lost, coming, arrivals, demanded, unreported, acknowledged}
-use Rattle.sheet.specs.Sheet.{cleared, bounce, size, mask, history, held, changed, change, changesBelow, changes, waiting, relint, allRead, marks, rsint, rklint, keptAt, pinSamples, newest, pending, driven, levels, flags, revtint, ris, mis, porirq, raised, line, irqst, heldBelow, nth, picture, oldest, byteOf}
+use Rattle.sheet.specs.Sheet.{cleared, bounce, size, mask, history, held, changed, change, changesBelow, changes, waiting, relint, allRead, marks, rsint, rklint, keptAt, pinSamples, newest, pending, driven, levels, flags, revtint, ris, mis, porirq, raised, line, irqst, heldBelow, nth, picture, oldest, byteOf, settling, settlingBelow, calm, quietLooks, quiet, asleep}
 
 unfoldable pub opened : Bool
 unfolding keys.opened contact.opened registers.opened
@@ -13,4 +13,5 @@ unfolding keys.opened contact.opened registers.opened
     codeGot taken room arriving codes kept lost coming arrivals demanded unreported acknowledged
     cleared bounce size mask history held changed change changesBelow changes waiting relint allRead marks rsint rklint
     keptAt pinSamples newest pending driven levels flags revtint ris mis porirq raised line irqst heldBelow nth picture oldest byteOf
+    settling settlingBelow calm quietLooks quiet asleep
 opened = true

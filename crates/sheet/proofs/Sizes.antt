@@ -68,7 +68,7 @@ size-ok (beside e ∷ past) h = size-ok past h
 
 -- ---- a key out of the size
 abbrev rest : Contact
-rest = record { held = false; run = 0; changed = false }
+rest = record { held = false; run = 0; changed = false; settling = false }
 
 -- an open contact that reads open, or is hidden, stays as it is
 out-look : (s : List ℕ) (past : Past) (k : ℕ) → keyIn (size past) k ≡ false → held k past ≡ false → runOf (held k past) (samples (history k past)) ≡ 0 → contactOf s past k ≡ rest

@@ -10,12 +10,13 @@
 --    8  the flags and the line    flags, revtint, ris, mis, porirq, raised, line, irqst
 --    9  the picture               heldBelow, nth, picture
 --    10 the byte of a register    oldest, byteOf
+--    11 the sleep                 settling, settlingBelow, calm, quietLooks, quiet, asleep
 --
 -- What is quoted is document 01, in its order but for the settings, which come first; and document 02, where it is named.
 -- A past has its newest happening first. Every table has the same five lines:
 -- after reset; after a look; after a byte was written; after a byte was read; after something that the keypad doesn't see.
 -- `A if T else B` is A when T is true, else B. `l ++ m` is l, then m; `c ∷ l` is c, then l. `&&` is and, `||` is or.
-use Prim.Native.Nat.{ℕ, zero, suc, _+_, _/_, _%_}
+use Prim.Native.Nat.{ℕ, zero, suc, _+_, _/_, _%_, min}
 use mathlib.Core.Bool.{Bool, true, false, not, _&&_, _||_}
 use mathlib.Core.List.{List, [], _∷_, _++_}
 use lib.ListN.{length, getD, take, drop}
@@ -30,12 +31,14 @@ use Rattle.registers.specs.declared.Register.the-variants.{KBDBOUNCE, KBDSIZE, 
 use Rattle.registers.specs.Registers.{_is_, pictured, _isPin_}
 
 -- ---- 1  WHAT CAN HAPPEN
--- A reset begins a new past. Declined calls and questions are no happenings. "Bytes take effect one at a time, in order."
+-- A reset begins a new past. Declined calls and questions are no happenings, but for an access that is refused while the panel sleeps. "Bytes take effect one at a time, in order."
 
 -- what the keypad doesn't see
 pub data Beside : Type 0 where
   -- the pins were sampled, bit i for pin i
   sampled : ℕ → Beside
+  -- an access was declined because the panel slept
+  refused : Beside
 
 pub data Happening : Type 0 where
   -- a look with these samples was done
@@ -190,6 +193,7 @@ pinSamples (looked s ∷ past) = pinSamples past
 pinSamples (wrote r b ∷ past) = pinSamples past
 pinSamples (got r ∷ past) = pinSamples past
 pinSamples (beside (sampled x) ∷ past) = x ∷ pinSamples past
+pinSamples (beside refused ∷ past) = pinSamples past
 
 -- pin i's newest sample; 0 if there is none
 unfoldable pub newest : Past → ℕ → Bool
@@ -203,6 +207,7 @@ pending (looked s ∷ past) i = pending past i
 pending (wrote r b ∷ past) i = without (i % 8) (pending past i) b if r isPin (0xDC + i / 8) else pending past i
 pending (got r ∷ past) i = pending past i
 pending (beside (sampled x) ∷ past) i = pending past i || (some (pinSamples past) && pins.edge (keptAt past) (size past) i (newest past i) (bit i x))
+pending (beside refused ∷ past) i = pending past i
 
 -- the pins that are driven, as bits, and those of them that are driven to 1: "drives nothing until the pin is free"
 unfoldable pub driven : Past → ℕ
@@ -289,3 +294,35 @@ byteOf EVTCODE past = oldest (waiting past)
 byteOf RSTINTCLR past = 0
 byteOf (PIN a) past = irqst past if eqb a 0x91 else pins.reads (keptAt past) (pending past) (newest past) (size past) a
 byteOf Unknown past = 0
+
+-- ---- 11  THE SLEEP: what is quoted here is document 02, E7
+
+-- "settling: its newest existing sample differs from what it is held as"
+unfoldable pub settling : ℕ → Past → Bool
+settling k past = contact.settling (held k past) (samples (history k past))
+
+-- some key below n is settling; out of the size none is, since its samples count as open
+unfoldable pub settlingBelow : ℕ → Past → Bool
+settlingBelow zero past = false
+settlingBelow (suc k) past = settlingBelow k past || settling k past
+
+-- a look with the samples s is quiet: "with no change, no settling"
+unfoldable pub calm : List ℕ → Past → Bool
+calm s past = not (some (changes s past)) && not (settlingBelow 104 (looked s ∷ past))
+
+-- the quiet looks "in a row", with "no done access between them". "An access is declined once and wakes it"; "A restart wakes it. Waking sets the count to 0."
+unfoldable pub quietLooks : Past → ℕ
+quietLooks [] = 0
+quietLooks (looked s ∷ past) = quietLooks past + 1 if calm s past else 0
+quietLooks (wrote r b ∷ past) = 0
+quietLooks (got r ∷ past) = 0
+quietLooks (beside (sampled x) ∷ past) = quietLooks past
+quietLooks (beside refused ∷ past) = 0
+
+-- "the count is at most 255"
+unfoldable pub quiet : Past → ℕ
+quiet past = min 255 (quietLooks past)
+
+-- "The module sleeps after 255 looks in a row"; "Looks count as usual while asleep"
+unfoldable pub asleep : Past → Bool
+asleep past = leb 255 (quietLooks past)

@@ -14,7 +14,7 @@ use mathlib.Core.List.{List}
 use lib.ListN.{length, getD, take, drop, length-take, length-drop}
 use lib.Seq.{getD-take, getD-drop}
 use lib.Dec.{eqb, leb}
-use borrow.Author.Tests.{le-leb, leb-true, leb-false, eqb-true, eq-eqb, le-ltb}
+use borrow.Author.Tests.{le-leb, leb-true, leb-false, eqb-true, eqb-false, eq-eqb, ne-eqb, le-ltb}
 use Rattle.words.proofs.Laws.{true-false, and-left, and-right, and-both}
 use Rattle.words.proofs.Lists.{by-test, all-at, all-of}
 use Rattle.keys.specs.Keys.{isKey, keyAt, rowOf, keyOf, acceptable, inSize, keyIn}
@@ -147,6 +147,9 @@ module _ (m : Module) (t : Typed m) where
         rest = rest-at (f .rest);
         mask = f .mask;
         marks = four-said (m .seen) (f .marks);
+        counted = f .counted;
+        sleeps = λ a. eqb-true (m .quiet) 255 (sym (f .asleep) ∙ a);
+        wakes = λ a. eqb-false (m .quiet) 255 (sym (f .asleep) ∙ a);
       }
 
   module _ (s : Said m) where
@@ -177,5 +180,21 @@ module _ (m : Module) (t : Typed m) where
         all-of (λ c. eqb c 0x7F) 0 (drop n (m .queue)) (λ i h.
         eq-eqb (getD (drop n (m .queue)) i 0) 0x7F (getD-drop n (m .queue) i 0 ∙ s .rest (n + i) (omega arith) (omega arith)))
 
+    asleep-exactly : (b : Bool) → m .asleep ≡ b → m .asleep ≡ eqb (m .quiet) 255
+    asleep-exactly true e = e ∙ sym (eq-eqb (m .quiet) 255 (s .sleeps e))
+    asleep-exactly false e = e ∙ sym (ne-eqb (m .quiet) 255 (s .wakes e))
+
     pub said-sound : sound m ≡ true
-    said-sound = facts-sound m (record { size = s .size; keys = all-keys; few = s .few; codes = all-codes; rest = all-rest-of; mask = s .mask; marks = said-four (m .seen) (s .marks) })
+    said-sound =
+        facts-sound m
+        (record {
+          size = s .size;
+          keys = all-keys;
+          few = s .few;
+          codes = all-codes;
+          rest = all-rest-of;
+          mask = s .mask;
+          marks = said-four (m .seen) (s .marks);
+          counted = s .counted;
+          asleep = asleep-exactly (m .asleep) refl;
+        })

@@ -11,7 +11,7 @@ use lib.ListN.{length, set, replicate}
 use Rattle.words.specs.Words.{all}
 use Rattle.keys.specs.Keys.{keyAt}
 use Rattle.state.specs.declared.Module.{Module}
-use Rattle.state.specs.Module.{fresh, restarted, queue, withKeys, withQueue, withBounce, withMask, withRklint, withRelint, withSeen}
+use Rattle.state.specs.Module.{fresh, restarted, queue, sleep, withKeys, withQueue, withBounce, withMask, withRklint, withRelint, withSeen, withSleep}
 use Rattle.sound.specs.Sound as soundness
 use Rattle.sound.proofs.Opened.{opened}
 
@@ -100,6 +100,15 @@ examples =
     -- "the four picture registers aren't all marked read"
     ∷ (withSeen fresh (true ∷ true ∷ true ∷ true ∷ []) is unsound)
     ∷ (withSeen fresh (true ∷ true ∷ true ∷ false ∷ []) is sound)
+    -- "the count is at most 255, and 255 exactly while asleep"
+    ∷ (withSleep fresh (sleep 255 true) is sound)
+    ∷ (withSleep fresh (sleep 254 false) is sound)
+    ∷ (withSleep fresh (sleep 255 false) is unsound)
+    ∷ (withSleep fresh (sleep 254 true) is unsound)
+    ∷ (withSleep fresh (sleep 256 true) is unsound)
+    ∷ (withSleep fresh (sleep 256 false) is unsound)
+    ∷ (withSleep fresh (sleep 0 true) is unsound)
+    ∷ (withSleep (withBounce (running 0 0 5) 0) (sleep 255 true) is sound)
     -- nothing is asked of the flags
     ∷ (withRelint fresh true is sound)
     ∷ (withRklint fresh true is sound)
@@ -108,6 +117,6 @@ examples =
 abbrev right : Entry → Bool
 right e = Bool·beq (soundness.sound (e .state)) (e .expected)
 
-examples-right : (length examples ≡ 40) × (all right examples ≡ true)
+examples-right : (length examples ≡ 48) × (all right examples ≡ true)
 unfolding opened
 examples-right = (refl, refl)

@@ -8,13 +8,13 @@
 use Prim.Native.Nat.{ℕ, _+_, _*_, _<_}
 use native.Mathlib.Omega.{arith}
 use mathlib.Core.Path.{_≡_, refl, sym, ap, _∙_}
-use mathlib.Core.Bool.{Bool, true, false, not, _&&_, _||_}
+use mathlib.Core.Bool.{Bool, true, false, not, _&&_, _||_, Bool·beq}
 use mathlib.Core.List.{List}
 use lib.ListN.{getD}
 use lib.Dec.{eqb}
 use borrow.Author.Tests.{le-leb, leb-true, eqb-true, not-true}
 use Rattle.words.specs.Words.{every, all, allBelow}
-use Rattle.words.proofs.Laws.{and-left, and-right, every-none, every-first, every-rest, every-cons, all-below, below-all}
+use Rattle.words.proofs.Laws.{true-false, and-left, and-right, every-none, every-first, every-rest, every-cons, all-below, below-all}
 use Rattle.keys.specs.Keys.{acceptable, rowOf, colOf, inSize, keyIn}
 use Rattle.keys.proofs.Laws.{place-row, place-col}
 use Rattle.keys.proofs.Rows.{rows-yes, rows-no}
@@ -23,6 +23,18 @@ use Rattle.state.specs.Module.{fresh, forgotten}
 use Rattle.state.specs.Queue.{waiting}
 use Rattle.picture.specs.Picture.{allRead}
 use Rattle.sound.specs.Sound.{keySound, placeSound, keysSound, codesSound, restUnused, sound, Sound}
+
+beq-same : (a b : Bool) → Bool·beq a b ≡ true → a ≡ b
+beq-same true true e = refl
+beq-same true false e = true-false (sym e)
+beq-same false true e = true-false (sym e)
+beq-same false false e = refl
+
+same-beq : (a b : Bool) → a ≡ b → Bool·beq a b ≡ true
+same-beq true true e = refl
+same-beq true false e = sym e
+same-beq false true e = e
+same-beq false false e = refl
 
 pub sound-facts : (m : Module) → sound m ≡ true → Sound m
 unfolding sound keysSound
@@ -33,6 +45,8 @@ sound-facts m e =
     let e₄ = every-rest _ _ e₃ in
     let e₅ = every-rest _ _ e₄ in
     let e₆ = every-rest _ _ e₅ in
+    let e₇ = every-rest _ _ e₆ in
+    let e₈ = every-rest _ _ e₇ in
     record {
       size = every-first _ _ e;
       keys = all-below _ 104 (every-first _ _ e₁);
@@ -41,6 +55,8 @@ sound-facts m e =
       rest = every-first _ _ e₄;
       mask = leb-true _ _ (every-first _ _ e₅);
       marks = not-true _ (every-first _ _ e₆);
+      counted = leb-true _ _ (every-first _ _ e₇);
+      asleep = beq-same _ _ (every-first _ _ e₈);
     }
 
 pub facts-sound : (m : Module) → Sound m → sound m ≡ true
@@ -52,7 +68,9 @@ facts-sound m h =
     (every-cons _ _ (h .codes)
     (every-cons _ _ (h .rest)
     (every-cons _ _ (le-leb _ _ (h .mask))
-    (every-cons _ _ (ap not (h .marks)) every-none))))))
+    (every-cons _ _ (ap not (h .marks))
+    (every-cons _ _ (le-leb _ _ (h .counted))
+    (every-cons _ _ (same-beq _ _ (h .asleep)) every-none))))))))
 
 pub fresh-sound : sound fresh ≡ true
 unfolding sound keySound keysSound codesSound restUnused every all allBelow acceptable keyIn inSize rowOf colOf waiting allRead fresh forgotten

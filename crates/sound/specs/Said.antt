@@ -40,3 +40,7 @@ pub record Said (m : Module) : Type 0 where
   pub mask : m .mask ≤ 0x0F
   -- "the four picture registers aren't all marked read"
   pub marks : ((n : ℕ) → n < 4 → getD (m .seen) n false ≡ true) → ⊥
+  -- document 02, E7: "the count is at most 255, and 255 exactly while asleep"
+  pub counted : m .quiet ≤ 255
+  pub sleeps : m .asleep ≡ true → m .quiet ≡ 255
+  pub wakes : m .asleep ≡ false → m .quiet ≡ 255 → ⊥

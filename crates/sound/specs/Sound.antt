@@ -8,7 +8,7 @@
 --    Sound m                         the same as facts, a field for each
 use Prim.Native.Nat.{ℕ, _+_, _*_, _≤_, _<_}
 use mathlib.Core.Path.{_≡_}
-use mathlib.Core.Bool.{Bool, true, false, not, _&&_, _||_}
+use mathlib.Core.Bool.{Bool, true, false, not, _&&_, _||_, Bool·beq}
 use mathlib.Core.List.{List, [], _∷_}
 use lib.ListN.{getD, drop}
 use lib.Dec.{leb, eqb}
@@ -58,6 +58,9 @@ sound m =
     ∷ leb (m .mask) 0x0F
     -- "the four picture registers aren't all marked read"
     ∷ not (allRead (m .seen))
+    -- document 02, E7: "the count is at most 255, and 255 exactly while asleep"
+    ∷ leb (m .quiet) 255
+    ∷ Bool·beq (m .asleep) (eqb (m .quiet) 255)
     ∷ [])
 
 pub record Sound (m : Module) : Type 0 where
@@ -68,3 +71,5 @@ pub record Sound (m : Module) : Type 0 where
   pub rest : restUnused (queueOf m) ≡ true
   pub mask : m .mask ≤ 0x0F
   pub marks : allRead (m .seen) ≡ false
+  pub counted : m .quiet ≤ 255
+  pub asleep : m .asleep ≡ eqb (m .quiet) 255

@@ -130,5 +130,8 @@ pub fn is_sound(m: Module) -> bool
     if 0x0F < mask {
         return false;
     }
-    !picture::all_read(m.seen)
+    if picture::all_read(m.seen) {
+        return false;
+    }
+    m.asleep == (m.quiet == state::sleep::ASLEEP)
 }

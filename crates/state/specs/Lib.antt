@@ -1,3 +1,4 @@
 pub mod Module
 pub mod Queue
+pub mod Sleep
 pub mod Typed

@@ -2,14 +2,15 @@
 --
 --    fresh                          the state after reset
 --    forgotten                      no picture register is marked as read
---    Keys, Queue, Settings, Flags   the four parts of the keypad's state
---    keys h r, queue p n r, settings b s m, flags s k p l    a part, of its fields
+--    Keys, Queue, Settings, Flags, Sleep    the parts of the keypad's state
+--    keys h r, queue p n r, settings b s m, flags s k p l, sleep q a    a part, of its fields
 --    keysOf m, queueOf m, ..        a part of the state m
---    made k q s f p                 the state of these parts, and of the pins' part p
+--    made k q s f p z               the state of these parts, the pins' part p among them
 --    anew f m size                  the state f, but for what a restart keeps of m, and the size
 --    restarted m size               the state after an accepted write of KBDSIZE
 --    withKeys m h r, withQueue m q, ..    the state m, with these for its own
---    keypad m                       the state m, with the pins as they are after reset: what the keypad has of it
+--    woken m                        the state m, awake, with a count of 0
+--    keypad m                       the state m, awake with a count of 0, and with the pins as they are after reset
 use Prim.Native.Nat.{ℕ}
 use mathlib.Core.Bool.{Bool, true, false}
 use mathlib.Core.List.{List}
@@ -37,6 +38,8 @@ fresh =
       relint = false;
       porirq = true;
       seen = forgotten;
+      quiet = 0;
+      asleep = false;
       pins = pins.fresh;
     }
 
@@ -64,6 +67,11 @@ pub record Flags : Type 0 where
   pub porirq : Bool
   pub seen : List Bool
 
+-- how many quiet looks there were in a row, 255 at most, and whether the panel sleeps
+pub record Sleep : Type 0 where
+  pub quiet : ℕ
+  pub asleep : Bool
+
 abbrev pub keys : List Bool → List ℕ → Keys
 keys held run = record { held = held; run = run }
 
@@ -75,6 +83,9 @@ settings bounce size mask = record { bounce = bounce; size = size; mask = mask }
 
 abbrev pub flags : Bool → Bool → Bool → List Bool → Flags
 flags rsint rklint porirq seen = record { rsint = rsint; rklint = rklint; porirq = porirq; seen = seen }
+
+abbrev pub sleep : ℕ → Bool → Sleep
+sleep quiet asleep = record { quiet = quiet; asleep = asleep }
 
 abbrev pub keysOf : Module → Keys
 keysOf m = keys (m .held) (m .run)
@@ -88,8 +99,11 @@ settingsOf m = settings (m .bounce) (m .size) (m .mask)
 abbrev pub flagsOf : Module → Flags
 flagsOf m = flags (m .rsint) (m .rklint) (m .porirq) (m .seen)
 
-abbrev pub made : Keys → Queue → Settings → Flags → Pins → Module
-made k q s f p =
+abbrev pub sleepOf : Module → Sleep
+sleepOf m = sleep (m .quiet) (m .asleep)
+
+abbrev pub made : Keys → Queue → Settings → Flags → Pins → Sleep → Module
+made k q s f p z =
     record {
       held = k .held;
       run = k .run;
@@ -103,29 +117,33 @@ made k q s f p =
       relint = q .relint;
       porirq = f .porirq;
       seen = f .seen;
+      quiet = z .quiet;
+      asleep = z .asleep;
       pins = p;
     }
 
 -- the state f, but for what a restart keeps of m, and the size
 abbrev pub anew : Module → Module → ℕ → Module
-anew f m size = made (keysOf f) (queueOf f) (settings (m .bounce) size (m .mask)) (flags (f .rsint) (f .rklint) (m .porirq) (f .seen)) (m .pins)
+anew f m size =
+    made (keysOf f) (queueOf f) (settings (m .bounce) size (m .mask)) (flags (f .rsint) (f .rklint) (m .porirq) (f .seen)) (m .pins) (sleepOf f)
 
 -- "A restart by KBDSIZE opens all keys, empties their sample history and the queue, clears RSINT, RKLINT and RELINT,
--- and forgets which picture registers were read; KBDBOUNCE, KBDMSK and PORIRQ stay." Document 02, E6: "a size write keeps the pin registers"
+-- and forgets which picture registers were read; KBDBOUNCE, KBDMSK and PORIRQ stay." Document 02, E6: "a size write keeps the pin registers";
+-- E7: "A restart wakes it."
 unfoldable pub restarted : Module → ℕ → Module
 restarted m size = anew fresh m size
 
 abbrev pub withKeys : Module → List Bool → List ℕ → Module
-withKeys m held run = made (keys held run) (queueOf m) (settingsOf m) (flagsOf m) (m .pins)
+withKeys m held run = made (keys held run) (queueOf m) (settingsOf m) (flagsOf m) (m .pins) (sleepOf m)
 
 abbrev pub withQueue : Module → Queue → Module
-withQueue m q = made (keysOf m) q (settingsOf m) (flagsOf m) (m .pins)
+withQueue m q = made (keysOf m) q (settingsOf m) (flagsOf m) (m .pins) (sleepOf m)
 
 abbrev pub withSettings : Module → Settings → Module
-withSettings m s = made (keysOf m) (queueOf m) s (flagsOf m) (m .pins)
+withSettings m s = made (keysOf m) (queueOf m) s (flagsOf m) (m .pins) (sleepOf m)
 
 abbrev pub withFlags : Module → Flags → Module
-withFlags m f = made (keysOf m) (queueOf m) (settingsOf m) f (m .pins)
+withFlags m f = made (keysOf m) (queueOf m) (settingsOf m) f (m .pins) (sleepOf m)
 
 abbrev pub withBounce : Module → ℕ → Module
 withBounce m bounce = withSettings m (settings bounce (m .size) (m .mask))
@@ -149,7 +167,14 @@ abbrev pub withSeen : Module → List Bool → Module
 withSeen m seen = withFlags m (flags (m .rsint) (m .rklint) (m .porirq) seen)
 
 abbrev pub withPins : Module → Pins → Module
-withPins m p = made (keysOf m) (queueOf m) (settingsOf m) (flagsOf m) p
+withPins m p = made (keysOf m) (queueOf m) (settingsOf m) (flagsOf m) p (sleepOf m)
+
+abbrev pub withSleep : Module → Sleep → Module
+withSleep m z = made (keysOf m) (queueOf m) (settingsOf m) (flagsOf m) (m .pins) z
+
+-- E7: "Waking sets the count to 0."
+abbrev pub woken : Module → Module
+woken m = withSleep m (sleep 0 false)
 
 abbrev pub keypad : Module → Module
-keypad m = withPins m pins.fresh
+keypad m = woken (withPins m pins.fresh)

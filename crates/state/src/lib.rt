@@ -1,11 +1,12 @@
 // The module state: what the panel remembers.
 pub mod queue;
+pub mod sleep;
 
 use keys::KEYS;
 use keys::NO_CODE;
 use pins::Pins;
 ghost use mathlib.Core.Path.{_≡_};
-ghost use Rattle.state.specs.Module.{fresh, restarted};
+ghost use Rattle.state.specs.Module.{fresh, restarted, woken};
 
 // How many codes can wait.
 pub const PLACES: usize = 15;
@@ -36,6 +37,10 @@ pub struct Module {
     pub porirq: bool,
     // which of the four picture registers were read
     pub seen: [bool; 4],
+    // how many quiet looks there were in a row, ASLEEP at most
+    pub quiet: u8,
+    // is the panel asleep?
+    pub asleep: bool,
     // the spare pins
     pub pins: Pins,
 }
@@ -58,6 +63,8 @@ pub fn fresh() -> Module
         relint: false,
         porirq: true,
         seen: [false; 4],
+        quiet: 0,
+        asleep: false,
         pins: pins,
     }
 }
@@ -73,5 +80,15 @@ pub fn restarted(m: Module, size: u8) -> Module
     next.porirq = m.porirq;
     let pins = m.pins;
     next.pins = pins;
+    next
+}
+
+// The state once the panel is awake, with nothing counted.
+pub fn woken(m: Module) -> Module
+    ensures { λ r. ⌜ r ≡ woken m ⌝ }
+{
+    let mut next = m;
+    next.quiet = 0;
+    next.asleep = false;
     next
 }

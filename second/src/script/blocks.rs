@@ -14,7 +14,7 @@ const GARBLED: [&str; 6] = ["g", "0x1", "-1", "10000", "1FFFF", ";"];
 // The lines.
 impl Maker {
     /// A block of these samples.
-    fn say_block(&mut self, samples: &[u16]) {
+    pub(super) fn say_block(&mut self, samples: &[u16]) {
         let words = self.sampled("looks", samples);
         self.say(words);
     }
@@ -123,7 +123,7 @@ impl Maker {
     }
 
     /// Sets high bits in one of the first eight samples, of the last eight, or of all.
-    fn spoil(&mut self, samples: &mut [u16]) {
+    pub(super) fn spoil(&mut self, samples: &mut [u16]) {
         let last = samples.len() - 1;
         let place = match self.chance.below(4) {
             0 => self.chance.below(8).min(last),

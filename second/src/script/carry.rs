@@ -66,7 +66,7 @@ impl Maker {
     }
 
     /// A packed list is played, and the script goes on from there.
-    fn play(&mut self, calls: &[Call]) {
+    pub(super) fn play(&mut self, calls: &[Call]) {
         self.list("play", &packed(calls));
         self.follow(calls);
     }

@@ -8,12 +8,12 @@ pub(super) const SF: u16 = 0x1000;
 // The contacts.
 impl Maker {
     /// How many rows are in the size.
-    fn rows(&self) -> usize {
+    pub(super) fn rows(&self) -> usize {
         usize::from(self.size >> 4)
     }
 
     /// Presses or releases a key of the row in the size, now and then two, or all of them at once.
-    fn strike(&mut self, row: usize) {
+    pub(super) fn strike(&mut self, row: usize) {
         let columns = usize::from(self.size & 0x0F);
         match self.chance.below(8) {
             0 => self.closed[row] ^= (1 << columns) - 1,

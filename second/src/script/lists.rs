@@ -28,7 +28,7 @@ pub(super) fn packed(calls: &[Call]) -> Vec<u8> {
 // The calls.
 impl Maker {
     /// A call that fits in a list. Some are declined when they are played.
-    fn some_call(&mut self) -> Call {
+    pub(super) fn some_call(&mut self) -> Call {
         match self.chance.below(26) {
             0..=10 => self.some_look(),
             11..=15 => {
@@ -121,7 +121,7 @@ impl Maker {
     /// Calls for the writer: all fit, or one or two of them don't.
     pub(super) fn calls_to_pack(&mut self) -> Vec<Call> {
         let mut calls = self.some_session();
-        let bad = if self.chance.one_in(3) { self.chance.between(1, 2) } else { 0 };
+        let bad = if self.chance.one_in(2) { self.chance.between(1, 2) } else { 0 };
         for _ in 0..bad {
             let (place, call) = (self.chance.between(0, calls.len()), self.bad_call());
             calls.insert(place, call);

@@ -67,7 +67,7 @@ impl Maker {
     }
 
     /// A sample of the pins.
-    fn say_pins(&mut self, sample: u32) {
+    pub(super) fn say_pins(&mut self, sample: u32) {
         let words = vec!["pins".to_string(), self.hex(sample, 5)];
         self.say(words);
     }
@@ -78,7 +78,7 @@ impl Maker {
     }
 
     /// The question which pins are driven.
-    fn ask_driven(&mut self) {
+    pub(super) fn ask_driven(&mut self) {
         self.say(vec!["drive".to_string()]);
     }
 
@@ -213,7 +213,7 @@ impl Maker {
     }
 
     /// A few samples, with levels that change.
-    fn move_pins(&mut self) {
+    pub(super) fn move_pins(&mut self) {
         for _ in 0..self.chance.between(1, 3) {
             self.turn_pins();
             self.sample();

@@ -52,7 +52,7 @@ impl Maker {
             0 => 0,
             1..=7 => self.chance.between(1, 8),
             8..=14 => self.chance.between(9, 40),
-            _ => self.chance.between(41, 300),
+            _ => self.chance.between(41, 900),
         }
     }
 

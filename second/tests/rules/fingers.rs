@@ -41,10 +41,8 @@ impl Calls for Watched {
         0
     }
 
-    fn read(&mut self, first: u8, buffer: &mut [u8]) -> u8 {
-        assert_eq!((first, buffer.len()), (0x02, 1));
-        buffer[0] = self.bounce;
-        0
+    fn read(&mut self, _: u8, _: &mut [u8]) -> u8 {
+        panic!("a finger makes no access")
     }
 
     fn pins(&mut self, _: u32) -> u8 {
@@ -61,6 +59,11 @@ impl Calls for Watched {
 
     fn drive(&self) -> (u8, Driven) {
         (8, [None; PINS])
+    }
+
+    fn register(&self, address: u8) -> u8 {
+        assert_eq!(address, 0x02);
+        self.bounce
     }
 }
 
@@ -293,6 +296,7 @@ fn a_wait_goes_on_with_the_contacts_of_a_look() {
         wait 1 -> 0
         read 10 2 -> 0 00 7F
         wait 65535 -> 0
+        read 10 1 -> 27
         read 10 1 -> 0 7F
         held 0 0 -> 0 yes
         ",

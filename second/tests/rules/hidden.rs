@@ -432,6 +432,7 @@ fn a_key_with_no_sample_since_the_restart() {
         write 02 02 -> 0
         look 1003 0 0 0 0 0 0 0 -> 0
         wait 300 -> 0
+        read 10 2 -> 27
         read 10 2 -> 0 0C 7F
         look 3 0 0 0 0 0 0 0 -> 0
         read 10 1 -> 0 7F

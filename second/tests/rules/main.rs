@@ -11,6 +11,7 @@ mod pins;
 mod playing;
 mod readings;
 mod sessions;
+mod sleep;
 mod there_and_back;
 mod undo;
 

@@ -148,7 +148,7 @@ fn declined_calls_are_played_and_declined() {
 // Recording.
 
 /// What a session of these lines is recorded as, in words.
-fn recorded(lines: &[&str]) -> Vec<String> {
+pub fn recorded(lines: &[&str]) -> Vec<String> {
     let mut console = Console::new();
     console.record();
     lines.iter().for_each(|line| drop(console.answer(line.as_bytes())));

@@ -1,6 +1,7 @@
 //! A module whose looks are counted by what they hide.
 
 pub mod pins;
+pub mod sleep;
 
 use second::calls::{Calls, Driven};
 use second::console::Console;
@@ -56,21 +57,14 @@ struct Watched {
 }
 
 impl Watched {
-    /// The byte of a register that can be read without effect.
-    fn register(&mut self, address: u8) -> usize {
-        let mut byte = [0];
-        self.module.read(address, &mut byte);
-        byte[0].into()
-    }
-
     /// The rows in the size.
-    fn rows(&mut self) -> usize {
-        self.register(0x03) / 16
+    fn rows(&self) -> usize {
+        usize::from(self.module.register(0x03)) / 16
     }
 
     /// The matrix keys in the size, and whether they are held.
-    fn keys(&mut self) -> Vec<(usize, usize, bool)> {
-        let (rows, columns) = (self.rows(), self.register(0x03) % 16);
+    fn keys(&self) -> Vec<(usize, usize, bool)> {
+        let (rows, columns) = (self.rows(), usize::from(self.module.register(0x03)) % 16);
         let keys = (0..rows).flat_map(|row| (0..columns).map(move |column| (row, column)));
         let held = |(row, column)| (row, column, self.module.held(row as u8, column as u8).1);
         keys.map(held).collect()
@@ -105,7 +99,7 @@ impl Watched {
 
     /// Counts a look that is done. The keys are as they were before it.
     fn count(&mut self, list: &[u16], before: &[(usize, usize, bool)]) {
-        let needed = self.register(0x02).max(1);
+        let needed = usize::from(self.module.register(0x02)).max(1);
         let closed: Vec<bool> = list.iter().map(|sample| sample >> 12 & 1 == 1).collect();
         let mut kinds = self.direct(&closed);
         for ((row, column, was), (.., is)) in before.iter().zip(self.keys()) {
@@ -182,6 +176,10 @@ impl Calls for Watched {
 
     fn drive(&self) -> (u8, Driven) {
         self.module.drive()
+    }
+
+    fn register(&self, address: u8) -> u8 {
+        self.module.register(address)
     }
 }
 

@@ -83,22 +83,15 @@ fn used(size: u32) -> u32 {
 const ALL: u32 = (1 << PINS) - 1;
 
 impl Watched {
-    /// The byte of a register that can be read without effect.
-    fn register(&self, address: u8) -> u32 {
-        let mut byte = [0];
-        self.module.borrow_mut().read(address, &mut byte);
-        byte[0].into()
-    }
-
     /// The bits of the pins in three registers, from an address on, so far apart.
     fn bits(&self, first: u8, apart: u8) -> u32 {
-        let bytes = (0..3).map(|group| self.register(first + apart * group) << (8 * group));
-        bytes.sum::<u32>() & ALL
+        let byte = |group| u32::from(self.register(first + apart * group)) << (8 * group);
+        (0..3).map(byte).sum::<u32>() & ALL
     }
 
     /// The pins that the keypad uses now.
     fn used_now(&self) -> u32 {
-        used(self.register(0x03))
+        used(self.register(0x03).into())
     }
 
     /// The edges that are pending.
@@ -288,6 +281,10 @@ impl Calls for Watched {
     fn drive(&self) -> (u8, Driven) {
         self.count_driven();
         self.module.borrow().drive()
+    }
+
+    fn register(&self, address: u8) -> u8 {
+        self.module.borrow().register(address)
     }
 }
 

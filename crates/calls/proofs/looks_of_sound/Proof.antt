@@ -8,14 +8,14 @@ use Rattle.calls.proofs.looks_of_sound.Tie as tie
 
 look-by-look-requires : tie.Need-look-by-look-requires
 look-by-look-requires c κs =
-    let s = c .before .before .before .before .before .before .before .before .before .before .before .before .before in
+    let s = c .before .before .before .before .before .before .before .before .before .before .before .before .before .before .before in
     let m = s .args .m in
     record { keys = search needs; runs = search needs; places = search needs; low = search needs; ok = bare (m .bounce) (m .size) _ (m .mask) (m .porirq) (m .pins) (s .pre) }
 
 returns : tie.Need-returns
 unfolding MadeOn
 returns c =
-    let s = c .before .before .before .before .before .before .before .before .before .before .before .before .before .before in
+    let s = c .before .before .before .before .before .before .before .before .before .before .before .before .before .before .before .before in
     let m = s .args .m in
     c .look-by-look .ensures (m .mask) (m .porirq) (m .pins) (s .pre)
 

@@ -1,10 +1,13 @@
 -- `scan::look_at` meets its contract: the step's answer goes to the key's places, and if the key changed its code goes to the queue.
 -- Assumes nothing.
+use Prim.Native.Nat.{_+_, _*_}
 use native.Mathlib.Omega.{arith}
 use mathlib.Core.Path.{sym, _∙_}
 use mathlib.Core.Bool.{or-true, or-false}
 use Rattle.keys.proofs.Laws.{code-place}
-use Rattle.scan.specs.Walk.{atKey}
+use Rattle.state.specs.Module.{queue}
+use Rattle.scan.specs.Walk.{parts}
+use Rattle.scan.proofs.Walk.{moved-key}
 use borrow.Author.Needs.{needs}
 use Rattle.scan.proofs.look_at.Statement.{statement}
 use Rattle.scan.proofs.look_at.Tie as tie
@@ -21,14 +24,14 @@ cast-key-2 c = search needs
 add-key : tie.Need-add-key
 add-key c = search needs
 
-element-copy-out-step : tie.Need-element-copy-out-step
-element-copy-out-step c = search needs
+element-copy-out-follow : tie.Need-element-copy-out-follow
+element-copy-out-follow c = search needs
 
-element-copy-out-step-2 : tie.Need-element-copy-out-step-2
-element-copy-out-step-2 c = search needs
+element-copy-out-follow-2 : tie.Need-element-copy-out-follow-2
+element-copy-out-follow-2 c = search needs
 
-step-requires : tie.Need-step-requires
-step-requires c κs = search needs
+follow-requires : tie.Need-follow-requires
+follow-requires c κs = search needs
 
 element-write-held : tie.Need-element-write-held
 element-write-held c = search needs
@@ -43,18 +46,20 @@ put-requires : tie.Need-put-requires
 put-requires c κs = search needs
 
 returns : tie.Need-returns
-unfolding atKey
 returns c =
     let a = c .before .before .before .before .before .before .before .before .before .args in
     let coded = c .before .before .before .before in
-    let code = code-place (a .row .0) (a .col .0) (omega arith) (omega arith) (coded .before .before .step .result .held) ∙ sym (coded .code-at .ensures) in
-    rw (← coded .before .before .step .ensures, coded .before .if1 .taken, code, c .put .ensures, or-true (a .any .now))
+    let x = coded .before .before .follow in
+    let code = code-place (a .row .0) (a .col .0) (omega arith) (omega arith) (x .result .held) ∙ sym (coded .code-at .ensures) in
+    let e = moved-key (a .bounce) (13 * a .row .0 + a .col .0) (a .sight) (parts (a .held .now) (a .run .now) (queue (a .places .now) (a .count .now) (a .relint .now)) (a .any .now)) (x .result) (x .ensures) in
+    rw (e, coded .before .if1 .taken, code, c .put .ensures, or-true (a .any .now))
 
 returns-2 : tie.Need-returns-2
-unfolding atKey
 returns-2 c =
-    let any = c .before .before .before .before .args .any .now in
-    rw (← c .before .step .ensures, c .if1 .left, or-false any)
+    let x = c .before .follow in
+    let a = c .before .before .before .before .args in
+    let e = moved-key (a .bounce) (13 * a .row .0 + a .col .0) (a .sight) (parts (a .held .now) (a .run .now) (queue (a .places .now) (a .count .now) (a .relint .now)) (a .any .now)) (x .result) (x .ensures) in
+    rw (e, c .if1 .left, or-false (a .any .now))
 
 pub look-at-spec : {M : Type 1} → statement M
 look-at-spec =
@@ -64,9 +69,9 @@ look-at-spec =
     mul-key
     cast-key-2
     add-key
-    element-copy-out-step
-    element-copy-out-step-2
-    step-requires
+    element-copy-out-follow
+    element-copy-out-follow-2
+    follow-requires
     element-write-held
     element-write-run
     code-at-requires

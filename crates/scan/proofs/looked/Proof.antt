@@ -11,7 +11,7 @@ look-on-requires c κs = search needs
 returns : tie.Need-returns
 unfolding LookedOn
 returns c =
-    let m = c .before .before .before .before .before .before .before .before .before .before .before .before .before .before .args .m in
+    let m = c .before .before .before .before .before .before .before .before .before .before .before .before .before .before .before .before .args .m in
     c .look-on .ensures (m .mask) (m .porirq) (m .pins)
 
 pub looked-spec : {M : Type 1} → statement M

@@ -2,6 +2,7 @@
 -- Assumes nothing.
 use mathlib.Core.Path.{sym, ap, _∙_}
 use mathlib.Core.Bool.{not}
+use native.Mathlib.Omega.{arith}
 use borrow.Author.Tests.{le-leb, lt-leb, not-true, not-false}
 use Rattle.words.proofs.Laws.{every-no, every-yes, every-later, every-one}
 use Rattle.state.specs.Queue.{waiting}
@@ -52,21 +53,28 @@ all-read-requires : tie.Need-all-read-requires
 all-read-requires c κs = search needs
 
 returns-7 : tie.Need-returns-7
-unfolding sound codesSound restUnused waiting
+unfolding sound
 returns-7 c =
-    let mask = c .before .before in
+    sym (every-later _ _ (every-later _ _ (every-later _ _ (every-later _ _ (every-later _ _ (every-later _ _
+    (every-no _ _ (ap not (sym (c .before .all-read .ensures) ∙ c .if7 .taken)))))))))
+
+returns-8 : tie.Need-returns-8
+unfolding sound codesSound restUnused waiting
+returns-8 c =
+    let mask = c .before .before .before in
     let rest = mask .before in
     let codes = rest .before .before .before .before in
     let few = codes .before .before .before .before in
     let keys = few .before in
     let size = keys .before .before .before .before .before in
-    ap not (c .all-read .ensures)
-    ∙ sym (every-yes _ _ (sym (size .before .is-acceptable .ensures) ∙ not-false _ (size .if1 .left))
+    sym (every-yes _ _ (sym (size .before .is-acceptable .ensures) ∙ not-false _ (size .if1 .left))
     ∙ every-yes _ _ (sym (keys .before .keys-sound .ensures) ∙ not-false _ (keys .if2 .left))
     ∙ every-yes _ _ (le-leb _ _ (few .if3 .left))
     ∙ every-yes _ _ (sym (codes .before .codes-sound .ensures) ∙ not-false _ (codes .if4 .left))
     ∙ every-yes _ _ (sym (rest .before .rest-unused .ensures) ∙ not-false _ (rest .if5 .left))
     ∙ every-yes _ _ (le-leb _ _ (mask .if6 .left))
+    ∙ every-yes _ _ (ap not (sym (c .before .all-read .ensures) ∙ c .if7 .left))
+    ∙ every-yes _ _ (le-leb (size .before .before .args .t1 .quiet) 255 (omega (arith, size .before .before .good)))
     ∙ every-one _)
 
 pub is-sound-spec : {M : Type 1} → statement M
@@ -84,4 +92,5 @@ is-sound-spec =
     returns-5
     returns-6
     all-read-requires
-    returns-7)
+    returns-7
+    returns-8)
