@@ -1,4 +1,6 @@
 // What the bytes of one access do to a module and a buffer.
+#![tactic(auto)]
+
 ghost use Rattle.std.specs.Prelude.{◌+◌, ◌≤◌, ◌≡◌, length, true, false};
 ghost use Rattle.words.specs.Words.{table};
 ghost use Rattle.registers.specs.declared.Access.TheVariants as way;
@@ -21,7 +23,7 @@ use registers::{IRQST, KBDCODE0, Register};
 use state::{Module, PLACES};
 
 // What a read shows and leaves as it is.
-#[derive(Drop)]
+#[derive(Clone, Copy)]
 struct Shown {
     bounce: u8,
     size: u8,

@@ -1,4 +1,6 @@
 // What the console writes: answers in pieces, the panel and the undo groups drawn, the lists of commands and numbers, and what is wrong with a line.
+#![tactic(auto)]
+
 pub mod draw;
 pub mod files;
 pub mod groups;

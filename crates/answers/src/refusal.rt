@@ -8,7 +8,7 @@ use text::page::{Page, least};
 // What is wanted of a word: a sample; an address or a byte; how many bytes to read; a row or a column that is asked for; the row and the column of a contact;
 // how many looks to make; the bytes of a buffer; the digits of a packed list; a code; by which rule and at which place a list of codes is cut;
 // a sample of the pins.
-#[derive(Drop)]
+#[derive(Clone, Copy)]
 pub enum Kind {
     Sample,
     Byte,
@@ -26,7 +26,7 @@ pub enum Kind {
 }
 
 // What is wrong, the word that is, by its places, and what was wanted of it.
-#[derive(Drop)]
+#[derive(Clone, Copy)]
 pub struct Wrong {
     pub fault: Fault,
     pub kind: Kind,

@@ -1,4 +1,6 @@
 // Numbers read from bits and laid into bits, most significant first. A place is counted in bits.
+#![tactic(auto)]
+
 ghost use Rattle.std.specs.Prelude.{◌≡◌, [], ◌++◌, ◌+◌, ◌-◌, ◌*◌, ◌≤◌, ◌<◌, length, get_or, take, replicate, leb};
 ghost use Rattle.bits.specs.Bits.{number, numbers, bits_of, spelled, bits_from, laid};
 

@@ -1,4 +1,6 @@
 // The eight calls, and looks handed over in blocks, by value: the module is passed and handed back.
+#![tactic(auto)]
+
 ghost use Rattle.std.specs.Prelude.{◌/◌, ◌≡◌, true, false, length};
 ghost use Rattle.state.specs.Module.{queue, sleep};
 ghost use Rattle.pins.specs.Pins as part;
@@ -14,14 +16,14 @@ use state::{Module, PLACES};
 
 // What reset, look, write and read hand back; after a declined call the module is as it was given, but that an access declined by ASLEEP has woken it.
 #[repr(C)]
-#[derive(Drop)]
+#[derive(Clone, Copy)]
 pub struct Done {
     pub after: Module,
     pub number: u8,
 }
 
 // What a question hands back; the answer of a declined one is no.
-#[derive(Drop)]
+#[derive(Clone, Copy)]
 pub struct Answered {
     pub after: Module,
     pub number: u8,
@@ -29,7 +31,7 @@ pub struct Answered {
 }
 
 // What a block of looks hands back: how many looks were done, and the module that they left.
-#[derive(Drop)]
+#[derive(Clone, Copy)]
 pub struct Block {
     pub after: Module,
     pub done: usize,
@@ -37,7 +39,7 @@ pub struct Block {
 }
 
 // What the question what is driven hands back, bit i for pin i; the level of a pin that isn't driven is 0.
-#[derive(Drop)]
+#[derive(Clone, Copy)]
 pub struct Driven {
     pub after: Module,
     pub number: u8,
@@ -46,7 +48,7 @@ pub struct Driven {
 }
 
 // How many looks of a block were done, and the number of the one that was declined, or 0.
-#[derive(Drop)]
+#[derive(Clone, Copy)]
 struct Made {
     done: usize,
     number: u8,

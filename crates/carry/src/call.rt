@@ -9,7 +9,7 @@ ghost use Rattle.carry.specs.Writer.{count_lines, own_lines};
 
 // A call: by its type it can hold what 1 to 4 decline.
 #[repr(C)]
-#[derive(Drop)]
+#[derive(Clone, Copy)]
 pub struct Call {
     // modulo 4: 0 a look, 1 a write, 2 a read, 3 a reset
     pub kind: u16,

@@ -1,4 +1,6 @@
 // A session carried: its calls as a packed list of bytes, and from there back to the state that they led to.
+#![tactic(auto)]
+
 pub mod call;
 pub mod player;
 pub mod reader;

@@ -9,7 +9,7 @@ use crate::call::Call;
 
 // The record at a place: its call, and the place behind it, in bytes and bits more; or the list's end; or a number.
 #[repr(C)]
-#[derive(Drop)]
+#[derive(Clone, Copy)]
 pub struct Record {
     pub call: Call,
     pub byte: usize,

@@ -10,7 +10,7 @@ use crate::call::{Call, NUMBERS, bits_of, call_at, of_call, put_call};
 
 // What the writer hands back; the length of a declined list is 0.
 #[repr(C)]
-#[derive(Drop)]
+#[derive(Clone, Copy)]
 pub struct Packed {
     pub length: usize,
     pub number: u8,
@@ -18,7 +18,7 @@ pub struct Packed {
 
 // What one call more hands back: the place behind its record, in bytes and bits more; after a declined one the place as given.
 #[repr(C)]
-#[derive(Drop)]
+#[derive(Clone, Copy)]
 pub struct Added {
     pub byte: usize,
     pub bit: u8,
@@ -26,7 +26,7 @@ pub struct Added {
 }
 
 // The number of a list's calls, and how many bytes and bits more its records have.
-#[derive(Drop)]
+#[derive(Clone, Copy)]
 struct Measure {
     byte: usize,
     bit: usize,

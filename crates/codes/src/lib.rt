@@ -1,4 +1,6 @@
 // Lists of codes, oldest first, and the keys that are down along them.
+#![tactic(auto)]
+
 ghost use Rattle.std.specs.Prelude.{◌≡◌, ◌≤◌, length};
 ghost use Rattle.keys.specs.Keys.{is_code};
 ghost use Rattle.codes.specs.Codes.{none_down, agrees, after, leading, agreeing, opposite};

@@ -16,7 +16,7 @@ use text::list::as_bytes;
 use text::page::{Page, least};
 
 // A packed list that is being shown: up to which place, and whether there is more of it.
-#[derive(Drop)]
+#[derive(Clone, Copy)]
 struct Shown {
     page: Page,
     byte: usize,
@@ -26,7 +26,7 @@ struct Shown {
 }
 
 // A packed list that is being played: up to which place, and whether there is more of it.
-#[derive(Drop)]
+#[derive(Clone, Copy)]
 struct Walk {
     panel: Module,
     tape: Tape,
@@ -38,7 +38,7 @@ struct Walk {
 }
 
 // The session after a list was played or declined, and the number.
-#[derive(Drop)]
+#[derive(Clone, Copy)]
 pub(crate) struct Outcome {
     pub s: Session,
     pub number: u8,

@@ -6,28 +6,28 @@ use text::number::{Fault, Number, digit_of, number_of};
 use text::word::{is_blank, is_end, word_from};
 
 // Two numbers, or what is wrong.
-#[derive(Drop)]
+#[derive(Clone, Copy)]
 pub(crate) enum Pair {
     Numbers(u32, u32),
     Wrong(Wrong),
 }
 
 // Could a list be read?
-#[derive(Drop)]
+#[derive(Clone, Copy)]
 pub(crate) enum Heard {
     Well,
     Wrong(Wrong),
 }
 
 // A list of numbers: how many it has.
-#[derive(Drop)]
+#[derive(Clone, Copy)]
 pub(crate) struct Listed {
     pub count: usize,
     pub heard: Heard,
 }
 
 // The number of a word, and the word's places.
-#[derive(Drop)]
+#[derive(Clone, Copy)]
 pub(crate) struct Told {
     pub number: Number,
     pub start: usize,

@@ -12,7 +12,7 @@ use text::page::least;
 use text::word::{is_end, is_same, word_from};
 
 // What is asked of a list of codes: by which trim key's code, at which place, and how many codes it has.
-#[derive(Drop)]
+#[derive(Clone, Copy)]
 struct Asked {
     trim: u8,
     place: usize,

@@ -21,7 +21,7 @@ const EVTCODE: u8 = 0x10;
 const KBDSIZE: usize = 0x03;
 
 // What a call gives: its bytes if it was a read, and how many codes were fetched since the last restart.
-#[derive(Drop)]
+#[derive(Clone, Copy)]
 pub(crate) struct Made {
     pub done: Done,
     pub bytes: [u8; 33],

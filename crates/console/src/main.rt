@@ -1,4 +1,6 @@
 // The panel's console: a command a line in, an answer a line out.
+#![tactic(auto)]
+
 mod block;
 mod carried;
 mod commands;
@@ -23,7 +25,7 @@ use text::lines::{NEWLINE, newline_from};
 use text::page;
 
 // The bytes that have arrived, and whether more may come.
-#[derive(Drop)]
+#[derive(Clone, Copy)]
 struct Received {
     count: usize,
     more: bool,

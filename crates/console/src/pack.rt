@@ -20,7 +20,7 @@ const SEMICOLON: u8 = b';';
 const LONGEST: usize = 16384;
 
 // The calls of a line: how many, and whether nothing is wrong with them.
-#[derive(Drop)]
+#[derive(Clone, Copy)]
 struct Gathered {
     page: Page,
     count: usize,

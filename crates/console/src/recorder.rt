@@ -13,7 +13,7 @@ const LENGTH: usize = 256;
 const FULL: usize = 192;
 
 // What is recorded and not written out yet: whole bytes, and bits of one that is begun.
-#[derive(Drop)]
+#[derive(Clone, Copy)]
 pub(crate) struct Tape {
     pub bytes: [u8; 256],
     // the place behind the last record, in bytes and bits more

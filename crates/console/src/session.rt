@@ -3,7 +3,7 @@ use crate::recorder::Tape;
 use state::Module;
 use text::page::Page;
 
-#[derive(Drop)]
+#[derive(Clone, Copy)]
 pub(crate) struct Session {
     pub panel: Module,
     // the contacts, as fingers hold them: a sample for each row

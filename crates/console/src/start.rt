@@ -14,7 +14,7 @@ use text::word::is_same;
 const LONGEST: usize = 1048576;
 
 // The places of the two files among the program's words; 0 if there is none.
-#[derive(Drop)]
+#[derive(Clone, Copy)]
 struct Files {
     record: usize,
     play: usize,
@@ -22,7 +22,7 @@ struct Files {
 }
 
 // What was read of a file.
-#[derive(Drop)]
+#[derive(Clone, Copy)]
 struct Got {
     count: usize,
     well: bool,

@@ -22,7 +22,7 @@ pub(crate) const RESET: u16 = 3;
 pub(crate) const NONE: u16 = 4;
 
 // A call, and what is wrong with it.
-#[derive(Drop)]
+#[derive(Clone, Copy)]
 pub(crate) struct Typed {
     pub call: Call,
     pub heard: Heard,

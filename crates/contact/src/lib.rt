@@ -1,9 +1,11 @@
 // One contact: how it is held, and its run of newest samples that are the opposite.
+#![tactic(auto)]
+
 ghost use Rattle.std.specs.Prelude.{◌≡◌};
 ghost use Rattle.contact.specs.Contact.{moved, sampled, stepped};
 
 // What a look shows of a contact: nothing, or how it reads.
-#[derive(Drop)]
+#[derive(Clone, Copy)]
 pub enum Sight {
     Hidden,
     Open,
@@ -11,7 +13,7 @@ pub enum Sight {
 }
 
 // The test of a contact at one look.
-#[derive(Drop)]
+#[derive(Clone, Copy)]
 pub struct Contact {
     pub held: bool,
     pub run: u8,
@@ -21,7 +23,7 @@ pub struct Contact {
 }
 
 // What a look over many contacts needs of each: all but settling, which the run tells. Three bytes are returned faster than four.
-#[derive(Drop)]
+#[derive(Clone, Copy)]
 pub struct Moved {
     pub held: bool,
     pub run: u8,

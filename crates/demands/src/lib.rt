@@ -1,1 +1,2 @@
 // The demands. There is no code here.
+#![tactic(auto)]

@@ -1,4 +1,6 @@
 // The flags as KBDRIS and KBDMIS show them, the interrupt line, and IRQST.
+#![tactic(auto)]
+
 ghost use Rattle.std.specs.Prelude.{◌≡◌, ◌≤◌, ◌+◌};
 ghost use Rattle.words.specs.Words.{without};
 ghost use Rattle.flags.specs.Flags.{irqst_of, line, mis_of, ris_of, weigh};

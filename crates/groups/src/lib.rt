@@ -1,4 +1,6 @@
 // The group reader for C (include/panel.h), in an archive of its own: it is for the computer that has the codes, and no panel needs it.
+#![tactic(auto)]
+
 ghost use Rattle.std.specs.Prelude.{◌≡◌, ◌≤◌};
 ghost use Rattle.undo.specs.Stands.{stands, first_in, end_in};
 ghost use Rattle.undo.specs.Walk.{walk_call, walk_buffer};
@@ -9,7 +11,7 @@ use undo::Stand;
 
 // What stands at a place, as words: C gets four of them, and three too, in memory on every target. Its kind is one of those below.
 #[repr(C)]
-#[derive(Drop)]
+#[derive(Clone, Copy)]
 pub struct Standing {
     pub number: usize,
     pub kind: usize,
@@ -31,7 +33,7 @@ const END: usize = 3;
 
 // A part of the list: its first place, and how many codes it has.
 #[repr(C)]
-#[derive(Drop)]
+#[derive(Clone, Copy)]
 pub struct Part {
     pub number: usize,
     pub first: usize,
@@ -40,7 +42,7 @@ pub struct Part {
 
 // What the walk has handed out.
 #[repr(C)]
-#[derive(Drop)]
+#[derive(Clone, Copy)]
 pub struct Handed {
     pub number: usize,
     pub groups: usize,

@@ -1,4 +1,6 @@
 // What is declined by a call's arguments alone, before any state is looked at.
+#![tactic(auto)]
+
 ghost use Rattle.std.specs.Prelude.{◌≡◌, not, length};
 ghost use Rattle.words.specs.Words.{all};
 ghost use Rattle.numbers.specs.Numbers.{number_of};

@@ -1,15 +1,17 @@
 // Keys: rows and columns numbered apart, key numbers, codes, and the keypad size.
+#![tactic(auto)]
+
 ghost use Rattle.std.specs.Prelude.{◌≡◌, true};
 ghost use Rattle.keys.specs.Keys.{is_key, key_at, row_of, col_of, press_code, release_code, code_at, code, is_code, key_of, acceptable, in_size, key_in};
 
 // A row, 0 to 7: the data sheet's KEYROW.
 #[repr(C)]
-#[derive(Drop)]
+#[derive(Clone, Copy)]
 pub struct Row(pub u8);
 
 // A column, 0 to 11, or 12 for the row's special function key: the data sheet's KEYCOL.
 #[repr(C)]
-#[derive(Drop)]
+#[derive(Clone, Copy)]
 pub struct Col(pub u8);
 
 pub const ROWS: u8 = 8;

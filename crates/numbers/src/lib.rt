@@ -1,4 +1,5 @@
 // The numbers that a call can give. A number other than DONE declines the call.
+#![tactic(auto)]
 
 // Done.
 pub const DONE: u8 = 0;

@@ -1,4 +1,6 @@
 // The face for C (include/panel.h): reset by value, seven calls and blocks of looks over a module that is lent, transfers on a bus over a wire that is lent, and sessions carried, by value again.
+#![tactic(auto)]
+
 ghost use Rattle.std.specs.Prelude.{◌≡◌, length};
 ghost use Rattle.calls.specs.Calls.{reset_call};
 ghost use Rattle.carry.specs.Calls.{call_at};
@@ -166,7 +168,7 @@ pub extern "C" fn panel_wire_drops(w: &mut Wire) -> bool
 
 // How far a list is written: bytes, bits more, and the call's number. Three words, so that C gets it in memory on every target.
 #[repr(C)]
-#[derive(Drop)]
+#[derive(Clone, Copy)]
 pub struct Written {
     pub byte: usize,
     pub bit: usize,

@@ -1,4 +1,6 @@
 // The picture, and which of its registers were read.
+#![tactic(auto)]
+
 ghost use Rattle.std.specs.Prelude.{◌≡◌, true, length, get_or, set, drop, ◌+◌, ◌*◌, ◌≤◌, ◌<◌};
 ghost use Rattle.state.specs.declared.Module.{Module};
 ghost use Rattle.state.specs.Module.{with_rsint, with_seen};

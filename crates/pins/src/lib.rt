@@ -1,4 +1,6 @@
 // The spare pins: what a pin is and does, over the bytes of its registers, its pending edge and its newest sample.
+#![tactic(auto)]
+
 ghost use Rattle.std.specs.Prelude.{◌+◌, ◌*◌, ◌/◌, ◌%◌, ◌^◌, ◌<◌, ◌≤◌, ◌≡◌, Bool, true, false, ◌&&◌, ◌||◌, get_or, set, length, take, drop};
 ghost use Rattle.words.specs.Words.{◌if◌, ◌else◌, within, bit};
 ghost use Rattle.pins.specs.Rules as rule;
@@ -31,7 +33,7 @@ const OMS: usize = 28;
 
 // The pins' part of the module state.
 #[repr(C)]
-#[derive(Drop)]
+#[derive(Clone, Copy)]
 pub struct Pins {
     // the bytes written to the registers at 0xAA to 0xAF, 0xC0 to 0xD4 and 0xE0 to 0xE5, in this order
     pub kept: [u8; KEPT],
@@ -44,7 +46,7 @@ pub struct Pins {
 }
 
 // What a word of bits tells of each pin.
-#[derive(Drop)]
+#[derive(Clone, Copy)]
 pub enum What {
     Data,
     Raw,

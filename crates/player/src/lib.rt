@@ -1,4 +1,6 @@
 // The player for C (include/panel.h), in an archive of its own: firmware that records has no use for it, and its calls stay as small as they are.
+#![tactic(auto)]
+
 ghost use Rattle.std.specs.Prelude.{◌≡◌};
 ghost use Rattle.carry.specs.Player.{play_call};
 

@@ -1,10 +1,12 @@
 // The registers: which stands at an address, what may be read and written, and the addresses of an access.
+#![tactic(auto)]
+
 ghost use Rattle.std.specs.Prelude.{◌+◌, ◌≡◌, ◌&&◌, leb, eqb};
 ghost use Rattle.registers.specs.Registers.{keypad_at, pin_at, pin_reads, pin_writes, register_at, can_read, can_write, allowed};
 ghost use Rattle.registers.specs.Runs.{next, run_allowed};
 
 // The registers by the data sheet's names; KBDCODE holds which of the four it is, PIN the address of a register of the spare pins, IRQST among them.
-#[derive(Drop)]
+#[derive(Clone, Copy)]
 pub enum Register {
     KBDBOUNCE,
     KBDSIZE,
@@ -20,7 +22,7 @@ pub enum Register {
 }
 
 // The two ways of an access.
-#[derive(Drop)]
+#[derive(Clone, Copy)]
 pub enum Access {
     Read,
     Write,

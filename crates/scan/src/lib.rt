@@ -1,4 +1,6 @@
 // What one look does to a module.
+#![tactic(auto)]
+
 ghost use Rattle.std.specs.Prelude.{◌≡◌, false, ◌<◌, ◌≤◌, ◌+◌, ◌*◌, ◌/◌, length};
 ghost use Rattle.contact.specs.Contact.{sight_of};
 ghost use Rattle.state.specs.Module.{queue, sleep};

@@ -1,4 +1,6 @@
 // Soundness, as document 01 lists it.
+#![tactic(auto)]
+
 ghost use Rattle.std.specs.Prelude.{◌≡◌, true, false, not, ◌&&◌, ◌<◌, eqb};
 ghost use Rattle.words.specs.Words.{all_below};
 ghost use Rattle.keys.specs.Keys.{acceptable, in_size};

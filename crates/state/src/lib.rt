@@ -1,4 +1,6 @@
 // The module state: what the panel remembers.
+#![tactic(auto)]
+
 pub mod queue;
 pub mod sleep;
 
@@ -16,7 +18,7 @@ pub const FULL: u8 = PLACES as u8;
 
 // Key k is 13 × row + column. REVTINT, KBDMIS and the interrupt line are worked out, never stored.
 #[repr(C)]
-#[derive(Drop)]
+#[derive(Clone, Copy)]
 pub struct Module {
     // is the key held?
     pub held: [bool; KEYS],

@@ -5,7 +5,7 @@ ghost use Rattle.text.specs.Digits.{digit, number_of};
 use crate::page;
 
 // What is wrong with a line.
-#[derive(Drop)]
+#[derive(Clone, Copy)]
 pub enum Fault {
     TooFew,
     TooMany,
@@ -16,7 +16,7 @@ pub enum Fault {
     Odd,
 }
 
-#[derive(Drop)]
+#[derive(Clone, Copy)]
 pub enum Number {
     Value(u32),
     Wrong(Fault),

@@ -4,7 +4,7 @@ ghost use Rattle.text.specs.Pages.{glyph, hexadecimal, listed, put, two_digits, 
 ghost use Rattle.text.specs.Digits.{last_digits, decimal};
 
 // The bytes, of which those before a place are used. What goes on the page has room there: nothing is dropped.
-#[derive(Drop)]
+#[derive(Clone, Copy)]
 pub struct Page {
     pub bytes: [u8; 256],
     pub at: usize,

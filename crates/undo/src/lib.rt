@@ -1,4 +1,6 @@
 // Undo groups: a list of codes, oldest first, cut into groups by the trim key.
+#![tactic(auto)]
+
 ghost use Rattle.std.specs.Prelude.{◌≡◌, ◌<◌, ◌≤◌, length, get_or, set, eqb};
 ghost use Rattle.numbers.specs.Numbers.{number_of};
 ghost use Rattle.codes.specs.Codes.{opposite};
@@ -11,7 +13,7 @@ use numbers::{BAD_CHANGE, BAD_CODE, BEYOND_END, DONE, INSIDE_GROUP};
 
 // What stands at a place: a finished group, from its first place to the place after its last; one that is open, by its first place;
 // the end of the list; or nothing is told, and the number says why.
-#[derive(Drop)]
+#[derive(Clone, Copy)]
 pub enum Stand {
     Group(usize, usize),
     Open(usize),
@@ -20,7 +22,7 @@ pub enum Stand {
 }
 
 // What the walk has handed out: how many groups, and the first place of the open tail.
-#[derive(Drop)]
+#[derive(Clone, Copy)]
 pub struct Walked {
     pub number: u8,
     pub groups: usize,

@@ -1,4 +1,6 @@
 // Between a two-wire bus and the module: a transfer of the host's is one whole access, made at its stop, of the bytes that were really sent.
+#![tactic(auto)]
+
 ghost use Rattle.std.specs.Prelude.{◌≤◌, ◌≡◌, true, length};
 ghost use Rattle.registers.specs.declared.Access.TheVariants as way;
 ghost use Rattle.registers.specs.Runs.{run_allowed};
@@ -30,7 +32,7 @@ pub const NOTHING: u8 = 0xFF;
 
 // The transfer that is open, if one is. All zeros are a wire with none.
 #[repr(C)]
-#[derive(Drop)]
+#[derive(Clone, Copy)]
 pub struct Wire {
     // READS: the bytes made ahead; WRITES: those collected
     pub bytes: [u8; ROOM],
@@ -45,28 +47,28 @@ pub struct Wire {
 }
 
 // What the beginning of a transfer hands back.
-#[derive(Drop)]
+#[derive(Clone, Copy)]
 pub struct Begun {
     pub wire: Wire,
     pub number: u8,
 }
 
 // What a byte from the host and a drop hand back: was the byte taken; was a transfer open?
-#[derive(Drop)]
+#[derive(Clone, Copy)]
 pub struct Kept {
     pub wire: Wire,
     pub yes: bool,
 }
 
 // What the bus is handed when it asks for a byte.
-#[derive(Drop)]
+#[derive(Clone, Copy)]
 pub struct Handed {
     pub wire: Wire,
     pub byte: u8,
 }
 
 // What the stop of a transfer hands back: how many bytes its access has.
-#[derive(Drop)]
+#[derive(Clone, Copy)]
 pub struct Ended {
     pub wire: Wire,
     pub count: u8,

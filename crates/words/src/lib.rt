@@ -1,1 +1,2 @@
 // Words for definitions: specs/Words.antt. There is no code here.
+#![tactic(auto)]

@@ -1,0 +1,24 @@
+-- `contact::follow` meets its contract: an arm for what the look shows.
+use mathlib.Core.Path.{sym, ap, ◌∙◌}
+use borrow.Author.Rules.{rules}
+use Rattle.contact.specs.declared.Sight.{Sight}
+use Rattle.contact.specs.Contact.{moved, stepped}
+use Rattle.contact.proofs.follow.Goals as goal
+
+pub returns-in-Hidden : goal.returns-in-Hidden
+unfolding moved stepped
+returns-in-Hidden c =
+    let a = c.args in
+    sym (ap (λ (x : Sight). moved (stepped a.held a.run x a.bounce)) c.enum_told-1.given.1)
+
+pub returns-in-Open : goal.returns-in-Open
+unfolding stepped
+returns-in-Open c =
+    let a = c.args in
+    c.sample.ensures ∙ sym (ap (λ (x : Sight). moved (stepped a.held a.run x a.bounce)) c.enum_told-in-Open-1.given.1)
+
+pub returns-in-Closed : goal.returns-in-Closed
+unfolding stepped
+returns-in-Closed c =
+    let a = c.args in
+    c.sample-in-Closed.ensures ∙ sym (ap (λ (x : Sight). moved (stepped a.held a.run x a.bounce)) c.enum_told-in-Closed-1.given.1)

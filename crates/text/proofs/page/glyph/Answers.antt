@@ -1,0 +1,13 @@
+-- `page::glyph` meets its contract: each return rewrites with the test that led there.
+use borrow.Author.Tests.{lt-ltb, le-ltb}
+use Rattle.text.specs.Pages.{glyph}
+use borrow.Author.Rules.{rules}
+use Rattle.text.proofs.page.glyph.Goals as goal
+
+pub returns-then-d-lt10 : goal.returns-then-d-lt10
+unfolding glyph
+returns-then-d-lt10 c = rw (lt-ltb _ _ c.if-d-lt10.true)
+
+pub returns : goal.returns
+unfolding glyph
+returns c = rw (le-ltb _ _ c.if-d-lt10.false)
