@@ -26,7 +26,7 @@ pub mod Source
 pub mod Total
 pub mod Opened
 pub mod Retired
-pub mod Hidden
+pub mod HiddenKeys
 pub mod RefutedHidden
 pub mod RefutedPins
 pub mod RefutedSleep

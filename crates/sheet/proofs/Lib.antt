@@ -2,7 +2,7 @@ pub mod Facts
 pub mod Arrivals
 pub mod Ledger
 pub mod Contacts
-pub mod Hidden
+pub mod HiddenKeys
 pub mod Replay
 pub mod Loss
 pub mod Sizes

@@ -41,7 +41,7 @@ use Rattle.registers.specs.declared.Register.{Register}
 use Rattle.registers.specs.declared.Register.TheVariants.{KBDSIZE}
 use Rattle.sheet.specs.Sheet.{Past, looked, wrote, got, beside, sampled, refused, bounce, size, history, held, changed, changes, settling, settling_below, calm, quiet_looks, quiet, asleep}
 use Rattle.sheet.proofs.Contacts.{contact_of, contact_right}
-use Rattle.sheet.proofs.Hidden.{hidden_keeps}
+use Rattle.sheet.proofs.HiddenKeys.{hidden_keeps}
 use Rattle.sheet.proofs.Sizes.{out_open_lem}
 
 -- ---- a key that is settling

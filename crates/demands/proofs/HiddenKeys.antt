@@ -12,7 +12,7 @@ use Rattle.words.specs.Words.{all, bit}
 use Rattle.words.proofs.Laws.{all_cons}
 use Rattle.sheet.specs.Sheet as sheet
 use Rattle.sheet.specs.Sheet.{looked}
-use Rattle.sheet.proofs.Hidden.{hidden_keeps, covered_row}
+use Rattle.sheet.proofs.HiddenKeys.{hidden_keeps, covered_row}
 use Rattle.demands.specs.Machine.{Call, look, held, Machine, after, happened, noted, done, fits}
 use Rattle.demands.specs.Demands.{Demand2}
 
