@@ -13,7 +13,7 @@
 --    played, not-played                      the state that the calls of a list give, one after the other; 20 for what is no list
 -- Assumes nothing.
 use Prim.Native.Nat.{ℕ, zero, suc, ◌+◌, ◌*◌, ◌-◌, ◌/◌, ◌%◌, ◌≤◌, ◌<◌}
-use native.Mathlib.Nat.{sub_zero}
+use native.Mathlib.Nat.{sub-zero}
 use native.Mathlib.Omega.{arith}
 use mathlib.Core.Path.{◌≡◌, refl, sym, ap, ◌∙◌}
 use mathlib.Core.Bool.{Bool, true, false, ◌&&◌}
@@ -109,21 +109,21 @@ module _ (m : Module) (c : Call) where
   pub step_look : {d : Done} → c.kind % 4 ≡ 0 → c.count ≤ length c.values
       → d ≡ look_call m (take (c.count - 0) c.values) → d.after ≡ stepped m (carried c)
   unfolding stepped
-  step_look e h g = rw (is_look c e, firsts_take c.count c.values h) (ap (λ (d : Done). d.after) (rw (sub_zero c.count) at g))
+  step_look e h g = rw (is_look c e, firsts_take c.count c.values h) (ap (λ (d : Done). d.after) (rw (sub-zero c.count) at g))
 
   pub step_write : {d : Done} {bytes : List ℕ} → c.kind % 4 ≡ 1 → c.count ≤ length c.values → bytes ≡ map low c.values
       → d ≡ write_call m (c.first % 256) (take (c.count - 0) bytes) → d.after ≡ stepped m (carried c)
   unfolding stepped low
   step_write e h b g =
       rw (is_write c e, firsts_take c.count c.values h, map_take low c.count c.values, ← b)
-      (ap (λ (d : Done). d.after) (rw (sub_zero c.count) at g))
+      (ap (λ (d : Done). d.after) (rw (sub-zero c.count) at g))
 
   pub step_read : {d : Done} → c.kind % 4 ≡ 2 → c.count ≤ 32
       → d ≡ read_call m (c.first % 256) (length {A = ℕ} (take (c.count - 0) (replicate 32 0))) → d.after ≡ stepped m (carried c)
   unfolding stepped low
   step_read e h g =
       let n = length-take-le {A = ℕ} c.count (replicate 32 0) h in
-      rw (is_read c e) (ap (λ (d : Done). d.after) (rw (sub_zero c.count, n) at g))
+      rw (is_read c e) (ap (λ (d : Done). d.after) (rw (sub-zero c.count, n) at g))
 
   pub step_reset : {d : Done} → (c.kind % 4 ≡ 0 → ⊥) → (c.kind % 4 ≡ 1 → ⊥) → (c.kind % 4 ≡ 2 → ⊥) → d ≡ reset_call → d.after ≡ stepped m (carried c)
   unfolding stepped

@@ -81,13 +81,17 @@ step_ruled : (d : ℕ) (held s : Bool) (ss : List Bool) → sampled held (run_of
 unfolding sampled run_of ruled opposite settling
 step_ruled d held s ss = go held s (leb (looks d) (run_of held ss + 1)) refl
   where
+    -- the contact, by whether it changes
+    by : (held s b : Bool) → Contact
+    by held s b = let after = cond b (not held) held in record { held = after; run = run_of after (s ∷ ss); changed = b; settling = settling after (s ∷ ss) }
+
     go : (held s b : Bool) → leb (looks d) (run_of held ss + 1) ≡ b → sampled held (run_of held ss) s d ≡ ruled d held (s ∷ ss)
     go true true b e = rw (changes_run d true (true ∷ ss), at_least_one d) refl
     go false false b e = rw (changes_run d false (false ∷ ss), at_least_one d) refl
     go true false true e = rw (changes_run d true (false ∷ ss), e) refl
-    go true false false e = rw (changes_run d true (false ∷ ss), e) refl
+    go true false false e = rw e (sym (ap (by true false) (changes_run d true (false ∷ ss) ∙ e)))
     go false true true e = rw (changes_run d false (true ∷ ss), e) refl
-    go false true false e = rw (changes_run d false (true ∷ ss), e) refl
+    go false true false e = rw e (sym (ap (by false true) (changes_run d false (true ∷ ss) ∙ e)))
 
 -- what is held and the run are all that has to be remembered
 pub run_enough : (x : Seen) (h : List Seen) → sampled (held_after h) (run_of (held_after h) (samples h)) x.closed x.bounce

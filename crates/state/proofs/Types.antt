@@ -4,9 +4,8 @@
 -- Assumes nothing.
 use Prim.Native.Nat.{ℕ, zero, suc, ◌<◌}
 use native.Mathlib.Omega.{arith}
-use mathlib.Core.Path.{◌≡◌, refl, sym, ap, ◌∙◌}
-use mathlib.Core.List.{List, [], ◌∷◌, map}
-use lib.ListN.{length, get_or}
+use mathlib.Core.List.{List, [], ◌∷◌}
+use lib.ListN.{get_or}
 use mir.Val.{Val}
 use denote.Laws.{Is}
 use denote.Shadow.{shadow}
@@ -16,11 +15,7 @@ use Rattle.state.specs.declared.Module.{Module}
 use Rattle.state.specs.Typed.{Typed}
 use Rattle.state.specs.contracts.Module as T
 
-same_long : {A : Type 0} (l : List A) → length (map (λ x. x) l) ≡ length l
-same_long [] = refl
-same_long (x ∷ l) = ap suc (same_long l)
-
-bytes_low : (l : List ℕ) (us : List Val) → shadow (each ℕ u8.own_val (map (λ x. x) l) us) → (i : ℕ) → get_or l i 0 < 256
+bytes_low : (l : List ℕ) (us : List Val) → shadow (each ℕ u8.own_val l us) → (i : ℕ) → get_or l i 0 < 256
 bytes_low [] us g i = omega arith
 bytes_low (c ∷ l) [] g i = absurd g
 bytes_low (c ∷ l) (u ∷ us) g zero = g.0.1
@@ -31,10 +26,10 @@ typed m vs is =
     let g = is.1.1 in
     let b : m.bounce < 256 = g.1.1.1.1.0.1 in
     record {
-      keys = sym (same_long m.held) ∙ g.0.1.0.1;
-      runs = sym (same_long m.run) ∙ g.1.0.1.0.1;
-      places = sym (same_long m.queue) ∙ g.1.1.0.1.0.1;
+      keys = g.0.1.0.1;
+      runs = g.1.0.1.0.1;
+      places = g.1.1.0.1.0.1;
       bytes = bytes_low m.queue g.1.1.0.0 g.1.1.0.1.1;
       bounce_low = omega arith;
-      marks = sym (same_long m.seen) ∙ g.1.1.1.1.1.1.1.1.1.1.1.0.1.0.1;
+      marks = g.1.1.1.1.1.1.1.1.1.1.1.0.1.0.1;
     }

@@ -11,7 +11,7 @@ use Prim.Native.Nat.{ℕ, ◌+◌, ◌<◌, ◌≤◌}
 use native.Mathlib.Omega.{arith}
 use mathlib.Core.Path.{◌≡◌, refl, sym, ap, subst}
 use mathlib.Core.Logic.{inl, inr}
-use mathlib.Core.Bool.{Bool, true, false, ◌||◌}
+use mathlib.Core.Bool.{Bool, true, false, cond, ◌||◌}
 use mathlib.Core.List.{List, [], ◌∷◌, ◌++◌, append_assoc}
 use lib.ListN.{length, length-append}
 use lib.Dec.{eqb}
@@ -181,7 +181,7 @@ stand_begins p (mark q x ∷ l) e = go (eqb p q) refl (λ n. stand_begins p l (o
   where
     go : (b : Bool) → eqb p q ≡ b → (eqb p q ≡ false → Stands p (stand_at p l) l) → Stands p (stand_at p (mark q x ∷ l)) (mark q x ∷ l)
     go true h rest = rw h (inl (eqb-true p q h, refl))
-    go false h rest = rw h (inr (rest h))
+    go false h rest = inr (subst (λ (y : Stand). Stands p y l) (sym (ap (λ (b : Bool). cond b x (stand_at p l)) h)) (rest h))
 
 -- no mark of these is at an earlier place
 pub stand_earlier : (p at : ℕ) (gs : List (List ℕ)) (t : List ℕ) → p < at → begins p (marks_from at gs t) ≡ false

@@ -9,16 +9,16 @@ pub returns-in-Hidden : goal.returns-in-Hidden
 unfolding moved stepped
 returns-in-Hidden c =
     let a = c.args in
-    sym (ap (λ (x : Sight). moved (stepped a.held a.run x a.bounce)) c.enum_told-1.given.1)
+    sym (ap (λ (x : Sight). moved (stepped a.held a.run x a.bounce)) c.in-Hidden.is)
 
 pub returns-in-Open : goal.returns-in-Open
 unfolding stepped
 returns-in-Open c =
     let a = c.args in
-    c.sample.ensures ∙ sym (ap (λ (x : Sight). moved (stepped a.held a.run x a.bounce)) c.enum_told-in-Open-1.given.1)
+    c.sample.ensures ∙ sym (ap (λ (x : Sight). moved (stepped a.held a.run x a.bounce)) c.in-Open.is)
 
 pub returns-in-Closed : goal.returns-in-Closed
 unfolding stepped
 returns-in-Closed c =
     let a = c.args in
-    c.sample-in-Closed.ensures ∙ sym (ap (λ (x : Sight). moved (stepped a.held a.run x a.bounce)) c.enum_told-in-Closed-1.given.1)
+    c.sample-in-Closed.ensures ∙ sym (ap (λ (x : Sight). moved (stepped a.held a.run x a.bounce)) c.in-Closed.is)
