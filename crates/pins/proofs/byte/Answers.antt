@@ -26,18 +26,17 @@ returns-then-is_data c =
     ∙ sym (reads_data (kept_in a.kept.now) (flag_in a.edge.now) (flag_in a.level.now) a.size a.address found)
 
 pub overflow_sub-address-then-is_within : goal.overflow_sub-address-then-is_within
-overflow_sub-address-then-is_within c = within_from 0xD6 0xD8 _ (sym c.before.before.is_Within.ensures ∙ c.if-is_within.true)
+overflow_sub-address-then-is_within c = within_from 0xD6 0xD8 _ (sym c.is_within.ensures ∙ c.if-is_within.true)
 
 pub group-requires-then-is_within : goal.group-requires-then-is_within
-group-requires-then-is_within c = let h = within_to 0xD6 0xD8 c.args.address (sym c.before.before.is_Within.ensures ∙ c.if-is_within.true) in omega arith
+group-requires-then-is_within c = let h = within_to 0xD6 0xD8 c.args.address (sym c.is_within.ensures ∙ c.if-is_within.true) in omega arith
 
 pub returns-then-is_within : goal.returns-then-is_within
 unfolding byte_by bit_of part
 returns-then-is_within c =
-    let d = c.before.before.before.before in
-    let a = d.before.before.args in
-    let other = sym d.before.is-data.ensures ∙ d.if1.false in
-    let found = sym c.before.before.before.is_Within.ensures ∙ c.if-is_within.true in
+    let a = c.args in
+    let other = sym c.is_data.ensures ∙ c.if-is_data.false in
+    let found = sym c.is_within.ensures ∙ c.if-is_within.true in
     c.group-then-is_within.ensures ∙ ap (part (a.address - 0xD6)) c.word-then-is_within.ensures
     ∙ sym (reads_raw (kept_in a.kept.now) (flag_in a.edge.now) (flag_in a.level.now) a.size a.address other found)
 
@@ -51,10 +50,9 @@ pub returns-then-is_within-2 : goal.returns-then-is_within-2
 unfolding byte_by bit_of part
 returns-then-is_within-2 c =
     let e = c.before.before.before.before in
-    let d = e.before.before in
-    let a = d.before.before.args in
-    let other = sym d.before.is-data.ensures ∙ d.if1.false in
-    let another = sym e.before.is_Within.ensures ∙ e.if2.false in
+    let a = c.args in
+    let other = sym c.is_data.ensures ∙ c.if-is_data.false in
+    let another = sym c.is_within.ensures ∙ c.if-is_within.false in
     let found = sym c.is_within-2.ensures ∙ c.if-is_within-2.true in
     c.group-then-is_within-2.ensures ∙ ap (part (a.address - 0xD9)) c.word-then-is_within-2.ensures
     ∙ sym (reads_masked (kept_in a.kept.now) (flag_in a.edge.now) (flag_in a.level.now) a.size a.address other another found)
@@ -62,10 +60,9 @@ returns-then-is_within-2 c =
 pub returns : goal.returns
 returns c =
     let e = c.before.before.before in
-    let d = e.before.before in
-    let a = d.before.before.args in
-    let other = sym d.before.is-data.ensures ∙ d.if1.false in
-    let another = sym e.before.is_Within.ensures ∙ e.if2.false in
+    let a = c.args in
+    let other = sym c.is_data.ensures ∙ c.if-is_data.false in
+    let another = sym c.is_within.ensures ∙ c.if-is_within.false in
     let none = sym c.is_within-2.ensures ∙ c.if-is_within-2.false in
     c.kept_at.ensures
     ∙ sym (reads_kept (kept_in a.kept.now) (flag_in a.edge.now) (flag_in a.level.now) a.size a.address other another none)

@@ -21,23 +21,21 @@ returns-then-not-bank c =
 
 pub returns-then-not-paired : goal.returns-then-not-paired
 returns-then-not-paired c =
-    let d = c.before.before in
-    let a = d.before.before.before.before.args in
+    let a = c.args in
     let k = a.kept.now in
-    let free = sym d.before.before.before.is-used.ensures ∙ d.before.before.if1.false in
-    let output = sym (d.before.bank.ensures ∙ bank_at k 12 a.pin (search rules) (search rules) (search rules)) ∙ not-false _ d.if2.false in
+    let free = sym c.is_used.ensures ∙ c.if-is_used.false in
+    let output = sym (c.bank.ensures ∙ bank_at k 12 a.pin (search rules) (search rules) (search rules)) ∙ not-false _ c.if-not-bank.false-raw in
     let masked = sym (c.paired.ensures ∙ paired_at k 7 a.pin (search rules) (search rules) (search rules)) ∙ not-true _ c.if-not-paired.true-raw in
     sym (drives_masked (kept_in k) a.size a.pin free output masked)
 
 pub returns-then-not-paired-2 : goal.returns-then-not-paired-2
 returns-then-not-paired-2 c =
     let e = c.before.before in
-    let d = e.before.before in
-    let a = d.before.before.before.before.args in
+    let a = c.args in
     let k = a.kept.now in
-    let free = sym d.before.before.before.is-used.ensures ∙ d.before.before.if1.false in
-    let output = sym (d.before.bank.ensures ∙ bank_at k 12 a.pin (search rules) (search rules) (search rules)) ∙ not-false _ d.if2.false in
-    let enabled = sym (e.before.paired.ensures ∙ paired_at k 7 a.pin (search rules) (search rules) (search rules)) ∙ not-false _ e.if3.false in
+    let free = sym c.is_used.ensures ∙ c.if-is_used.false in
+    let output = sym (c.bank.ensures ∙ bank_at k 12 a.pin (search rules) (search rules) (search rules)) ∙ not-false _ c.if-not-bank.false-raw in
+    let enabled = sym (c.paired.ensures ∙ paired_at k 7 a.pin (search rules) (search rules) (search rules)) ∙ not-false _ c.if-not-paired.false-raw in
     let whole = sym (c.paired-2.ensures ∙ drain_at k 27 a.pin (search rules) (search rules) (search rules)) ∙ not-true _ c.if-not-paired-2.true-raw in
     sym (drives_whole (kept_in k) a.size a.pin free output enabled whole)
 
@@ -45,13 +43,12 @@ pub returns : goal.returns
 returns c =
     let f = c.before.before in
     let e = f.before.before in
-    let d = e.before.before in
-    let a = d.before.before.before.before.args in
+    let a = c.args in
     let k = a.kept.now in
-    let free = sym d.before.before.before.is-used.ensures ∙ d.before.before.if1.false in
-    let output = sym (d.before.bank.ensures ∙ bank_at k 12 a.pin (search rules) (search rules) (search rules)) ∙ not-false _ d.if2.false in
-    let enabled = sym (e.before.paired.ensures ∙ paired_at k 7 a.pin (search rules) (search rules) (search rules)) ∙ not-false _ e.if3.false in
-    let drain = sym (f.before.paired2.ensures ∙ drain_at k 27 a.pin (search rules) (search rules) (search rules)) ∙ not-false _ f.if4.false in
+    let free = sym c.is_used.ensures ∙ c.if-is_used.false in
+    let output = sym (c.bank.ensures ∙ bank_at k 12 a.pin (search rules) (search rules) (search rules)) ∙ not-false _ c.if-not-bank.false-raw in
+    let enabled = sym (c.paired.ensures ∙ paired_at k 7 a.pin (search rules) (search rules) (search rules)) ∙ not-false _ c.if-not-paired.false-raw in
+    let drain = sym (c.paired-2.ensures ∙ drain_at k 27 a.pin (search rules) (search rules) (search rules)) ∙ not-false _ c.if-not-paired-2.false-raw in
     let side = c.paired-3.ensures ∙ drain_at k 28 a.pin (search rules) (search rules) (search rules) in
     let high = c.paired-4.ensures ∙ paired_at k 6 a.pin (search rules) (search rules) (search rules) in
     (λ i. beq (side i) (high i)) ∙ sym (drives_drain (kept_in k) a.size a.pin free output enabled drain)

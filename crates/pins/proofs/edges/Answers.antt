@@ -14,12 +14,11 @@ part g w = w / 2 ^ (8 * g) % 256
 pub returns : goal.returns
 unfolding edges byte_by bit_of part
 returns c =
-    let d = c.before.before.before in
-    let raw = d.before.before.before.before.word.ensures in
-    let masked = d.before.before.before.word2.ensures in
-    let first = d.before.before.group.ensures ∙ ap (part 0) raw in
-    let second = d.before.group2.ensures ∙ ap (part 1) raw in
-    let third = d.group3.ensures ∙ ap (part 2) raw in
+    let raw = c.word-raw.ensures in
+    let masked = c.word-masked.ensures in
+    let first = c.group.ensures ∙ ap (part 0) raw in
+    let second = c.group-2.ensures ∙ ap (part 1) raw in
+    let third = c.group-3.ensures ∙ ap (part 2) raw in
     let fourth = c.group-4.ensures ∙ ap (part 0) masked in
     let fifth = c.group-5.ensures ∙ ap (part 1) masked in
     let sixth = c.group-6.ensures ∙ ap (part 2) masked in

@@ -18,49 +18,45 @@ returns-then-is_used c =
 
 pub returns-then-bank : goal.returns-then-bank
 returns-then-bank c =
-    let d = c.before.before in
-    let a = d.before.before.before.args in
+    let a = c.args in
     let k = a.kept.now in
-    let free = sym d.before.is-used.ensures ∙ d.if2.false in
+    let free = sym c.is_used.ensures ∙ c.if-is_used.false in
     let output = sym (c.bank.ensures ∙ bank_at k 12 a.pin (search rules) (search rules) (search rules)) ∙ c.if-bank.true in
-    sym (edge_output (kept_in k) a.size a.pin a.old a.new d.before.before.if1.false free output)
+    sym (edge_output (kept_in k) a.size a.pin a.old a.new c.if-old-new.false free output)
 
 pub returns-then-bank-2 : goal.returns-then-bank-2
 returns-then-bank-2 c =
     let e = c.before.before in
-    let d = e.before.before in
-    let a = d.before.before.before.args in
+    let a = c.args in
     let k = a.kept.now in
-    let free = sym d.before.is-used.ensures ∙ d.if2.false in
-    let input = sym (e.before.bank.ensures ∙ bank_at k 12 a.pin (search rules) (search rules) (search rules)) ∙ e.if3.false in
+    let free = sym c.is_used.ensures ∙ c.if-is_used.false in
+    let input = sym (c.bank.ensures ∙ bank_at k 12 a.pin (search rules) (search rules) (search rules)) ∙ c.if-bank.false in
     let level = sym (c.bank-2.ensures ∙ bank_at k 15 a.pin (search rules) (search rules) (search rules)) ∙ c.if-bank-2.true in
-    sym (edge_level (kept_in k) a.size a.pin a.old a.new d.before.before.if1.false free input level)
+    sym (edge_level (kept_in k) a.size a.pin a.old a.new c.if-old-new.false free input level)
 
 pub returns-then-bank-3 : goal.returns-then-bank-3
 returns-then-bank-3 c =
     let f = c.before.before in
     let e = f.before.before in
-    let d = e.before.before in
-    let a = d.before.before.before.args in
+    let a = c.args in
     let k = a.kept.now in
-    let free = sym d.before.is-used.ensures ∙ d.if2.false in
-    let input = sym (e.before.bank.ensures ∙ bank_at k 12 a.pin (search rules) (search rules) (search rules)) ∙ e.if3.false in
-    let change = sym (f.before.bank2.ensures ∙ bank_at k 15 a.pin (search rules) (search rules) (search rules)) ∙ f.if4.false in
+    let free = sym c.is_used.ensures ∙ c.if-is_used.false in
+    let input = sym (c.bank.ensures ∙ bank_at k 12 a.pin (search rules) (search rules) (search rules)) ∙ c.if-bank.false in
+    let change = sym (c.bank-2.ensures ∙ bank_at k 15 a.pin (search rules) (search rules) (search rules)) ∙ c.if-bank-2.false in
     let both = sym (c.bank-3.ensures ∙ bank_at k 18 a.pin (search rules) (search rules) (search rules)) ∙ c.if-bank-3.true in
-    sym (edge_both (kept_in k) a.size a.pin a.old a.new d.before.before.if1.false free input change both)
+    sym (edge_both (kept_in k) a.size a.pin a.old a.new c.if-old-new.false free input change both)
 
 pub returns : goal.returns
 returns c =
     let g = c.before in
     let f = g.before.before in
     let e = f.before.before in
-    let d = e.before.before in
-    let a = d.before.before.before.args in
+    let a = c.args in
     let k = a.kept.now in
-    let free = sym d.before.is-used.ensures ∙ d.if2.false in
-    let input = sym (e.before.bank.ensures ∙ bank_at k 12 a.pin (search rules) (search rules) (search rules)) ∙ e.if3.false in
-    let change = sym (f.before.bank2.ensures ∙ bank_at k 15 a.pin (search rules) (search rules) (search rules)) ∙ f.if4.false in
-    let one = sym (g.before.bank3.ensures ∙ bank_at k 18 a.pin (search rules) (search rules) (search rules)) ∙ g.if5.false in
+    let free = sym c.is_used.ensures ∙ c.if-is_used.false in
+    let input = sym (c.bank.ensures ∙ bank_at k 12 a.pin (search rules) (search rules) (search rules)) ∙ c.if-bank.false in
+    let change = sym (c.bank-2.ensures ∙ bank_at k 15 a.pin (search rules) (search rules) (search rules)) ∙ c.if-bank-2.false in
+    let one = sym (c.bank-3.ensures ∙ bank_at k 18 a.pin (search rules) (search rules) (search rules)) ∙ c.if-bank-3.false in
     let rising = c.bank-4.ensures ∙ bank_at k 21 a.pin (search rules) (search rules) (search rules) in
     ap (λ (b : Bool). beq b a.new) rising
-    ∙ sym (edge_one (kept_in k) a.size a.pin a.old a.new d.before.before.if1.false free input change one)
+    ∙ sym (edge_one (kept_in k) a.size a.pin a.old a.new c.if-old-new.false free input change one)

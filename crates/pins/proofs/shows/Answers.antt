@@ -21,21 +21,19 @@ returns-then-not-paired c =
 
 pub returns-then-bank : goal.returns-then-bank
 returns-then-bank c =
-    let d = c.before.before.before in
-    let a = d.before.before.before.before.args in
+    let a = c.args in
     let k = a.kept.now in
-    let free = sym d.before.before.before.is-used.ensures ∙ d.before.before.if1.false in
-    let enabled = sym (d.before.paired.ensures ∙ paired_at k 7 a.pin (search rules) (search rules) (search rules)) ∙ not-false _ d.if2.false in
+    let free = sym c.is_used.ensures ∙ c.if-is_used.false in
+    let enabled = sym (c.paired.ensures ∙ paired_at k 7 a.pin (search rules) (search rules) (search rules)) ∙ not-false _ c.if-not-paired.false-raw in
     let output = sym (c.bank.ensures ∙ bank_at k 12 a.pin (search rules) (search rules) (search rules)) ∙ c.if-bank.true in
     c.paired-then-bank.ensures ∙ paired_at k 6 a.pin (search rules) (search rules) (search rules)
     ∙ sym (shows_output (kept_in k) a.size a.pin (flag_in a.level.now) free enabled output)
 
 pub returns : goal.returns
 returns c =
-    let d = c.before.before.before in
-    let a = d.before.before.before.before.args in
+    let a = c.args in
     let k = a.kept.now in
-    let free = sym d.before.before.before.is-used.ensures ∙ d.before.before.if1.false in
-    let enabled = sym (d.before.paired.ensures ∙ paired_at k 7 a.pin (search rules) (search rules) (search rules)) ∙ not-false _ d.if2.false in
+    let free = sym c.is_used.ensures ∙ c.if-is_used.false in
+    let enabled = sym (c.paired.ensures ∙ paired_at k 7 a.pin (search rules) (search rules) (search rules)) ∙ not-false _ c.if-not-paired.false-raw in
     let input = sym (c.bank.ensures ∙ bank_at k 12 a.pin (search rules) (search rules) (search rules)) ∙ c.if-bank.false in
     sym (shows_input (kept_in k) a.size a.pin (flag_in a.level.now) free enabled input)
