@@ -1,0 +1,17 @@
+-- `codes::good` meets its contract. The loop's invariant: as many codes lead as were passed, and as lead from place i on.
+use Prim.Native.Nat.{◌+◌, ◌-◌, ◌≤◌}
+use native.Mathlib.Omega.{arith}
+use mathlib.Core.Path.{◌≡◌, sym, ◌∙◌}
+use lib.ListN.{length, drop}
+use borrow.Author.Rules.{rules}
+use borrow.Author.Tests.{not-true, not-false}
+use Rattle.keys.specs.Keys.{is_code}
+use Rattle.codes.specs.Codes.{leading}
+use Rattle.codes.proofs.Laws.{leading_end, leading_stop, leading_go}
+use Rattle.codes.proofs.good.Given as goal
+
+abbrev pub invariant-loop-i : goal.invariant-loop-i
+invariant-loop-i l = (l.i ≤ length l.codes) × (leading is_code l.codes ≡ l.i + leading is_code (drop l.i l.codes))
+
+abbrev pub decreases-loop-i : goal.decreases-loop-i
+decreases-loop-i l = length l.codes - l.i
