@@ -19,8 +19,6 @@ use lib.ListN.{length, get_or, drop, drop_of_length-le}
 use lib.Seq.{drop-cons}
 use lib.Dec.{eqb, ltb}
 use borrow.Author.Tests.{ne_eqb, eqb-true, eqb-false, not-false}
-use types.Run.{OneOf, miss}
-use denote.Enum.Declared.{tag_of}
 use Rattle.words.specs.Words.{bit}
 use Rattle.numbers.specs.Numbers.{Line, ◌gives◌, number_of, done, not_eight, no_bytes, too_many, not_allowed, bad_size, no_key}
 use Rattle.numbers.proofs.Laws.{declining, first_decides, rest_decides, line_false}
@@ -32,7 +30,6 @@ use Rattle.registers.specs.declared.Register.{Register}
 use Rattle.registers.specs.declared.Register.TheVariants.{KBDBOUNCE, KBDSIZE, KBDRIS, KBDMIS, KBDIC, KBDMSK, KBDCODE, EVTCODE, RSTINTCLR, PIN, Unknown}
 use Rattle.registers.specs.Registers.{register_at, ◌is◌, address}
 use Rattle.registers.specs.Runs.{next, run_allowed}
-use Rattle.registers.specs.contracts.Register as Registers
 use Rattle.judge.specs.Lines.{high, sample_lines, access_lines, byte_fits, sizes_fit, read_lines, write_lines, key_lines}
 
 -- a number below twice a bit's weight, with that bit 0, is below the weight
@@ -61,19 +58,15 @@ module _ (x : ℕ) where
       go false false true ea eb ec = refl
       go false false false ea eb ec = absurd (omega (arith, low13 x (low14 x (low15 x l (eqb-false _ 1 ec)) (eqb-false _ 1 eb)) (eqb-false _ 1 ea)))
 
--- the tags of all registers but KBDSIZE
-abbrev others : List ℕ
-others = 0 ∷ 2 ∷ 3 ∷ 4 ∷ 5 ∷ 6 ∷ 7 ∷ 8 ∷ 9 ∷ 10 ∷ []
-
 module _ (b : ℕ) where
   pub fits_size : (r : Register) → r ≡ KBDSIZE → byte_fits r b ≡ acceptable b
   unfolding byte_fits ◌is◌ address
   fits_size r e = rw e
 
-  pub fits_other : (r : Register) → OneOf others (tag_of Registers.the_type r) → byte_fits r b ≡ true
+  pub fits_other : (r : Register) → (r ≡ KBDSIZE → ⊥) → byte_fits r b ≡ true
   unfolding byte_fits ◌is◌ address
   fits_other KBDBOUNCE h = refl
-  fits_other KBDSIZE h = absurd (miss others 1 tt h)
+  fits_other KBDSIZE h = absurd (h refl)
   fits_other KBDRIS h = refl
   fits_other KBDMIS h = refl
   fits_other KBDIC h = refl

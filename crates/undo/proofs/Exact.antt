@@ -31,9 +31,6 @@ use Rattle.undo.specs.Stands.{values_of, Mark, mark, marks_of, begins, stand_at,
 use Rattle.undo.specs.Walk.{ends_from, walk_lines, handed, walk_by, walk_call, over, walk_buffer}
 use Rattle.undo.specs.Places.{place_lines}
 use Rattle.undo.specs.Exactly.{Begins, Right, StandExact}
-use types.Run.{OneOf}
-use denote.Enum.Declared.{tag_of}
-use Rattle.undo.specs.contracts.Stand as S
 use Rattle.undo.specs.declared.Stand.{Stand}
 use Rattle.undo.specs.declared.Stand.TheVariants.{Group, Open, Nothing, Declined}
 use Rattle.undo.proofs.Groups.{covers}
@@ -291,22 +288,18 @@ module _ (trim : ℕ) (s : List ℕ) (p : ℕ) (x : Stand) (stood : x ≡ stands
       lies Nothing h = (omega arith, omega arith)
       lies (Declined n) h = (omega arith, omega arith)
 
-  pub stretch_none : OneOf (1 ∷ 2 ∷ 3 ∷ []) (tag_of S.the_type x) → (first_in (stands trim s p) ≡ 0) × (end_in (stands trim s p) ≡ 0)
+  pub stretch_none : ((f e : ℕ) → x ≡ Group f e → ⊥) → (first_in (stands trim s p) ≡ 0) × (end_in (stands trim s p) ≡ 0)
   unfolding first_in end_in
   stretch_none k = (ap first_in (sym stood) ∙ first x k, ap end_in (sym stood) ∙ end x k)
     where
-      first : (y : Stand) → OneOf (1 ∷ 2 ∷ 3 ∷ []) (tag_of S.the_type y) → first_in y ≡ 0
-      first (Group f e) (inl i) = absurd (omega (arith, i))
-      first (Group f e) (inr (inl i)) = absurd (omega (arith, i))
-      first (Group f e) (inr (inr i)) = absurd (omega (arith, i))
+      first : (y : Stand) → ((f e : ℕ) → y ≡ Group f e → ⊥) → first_in y ≡ 0
+      first (Group f e) i = absurd (i f e refl)
       first (Open q) i = refl
       first Nothing i = refl
       first (Declined n) i = refl
 
-      end : (y : Stand) → OneOf (1 ∷ 2 ∷ 3 ∷ []) (tag_of S.the_type y) → end_in y ≡ 0
-      end (Group f e) (inl i) = absurd (omega (arith, i))
-      end (Group f e) (inr (inl i)) = absurd (omega (arith, i))
-      end (Group f e) (inr (inr i)) = absurd (omega (arith, i))
+      end : (y : Stand) → ((f e : ℕ) → y ≡ Group f e → ⊥) → end_in y ≡ 0
+      end (Group f e) i = absurd (i f e refl)
       end (Open q) i = refl
       end Nothing i = refl
       end (Declined n) i = refl

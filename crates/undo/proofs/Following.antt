@@ -22,13 +22,10 @@ use mathlib.Core.List.{List, [], ◌∷◌, ◌++◌}
 use lib.ListN.{length, take, drop, get_or, set, length-append, length-drop, length-take, drop_of_length-le}
 use lib.Seq.{take-suc, drop-cons, get_or-drop, drop-drop}
 use lib.Dec.{eqb}
-use types.Run.{OneOf}
-use denote.Enum.Declared.{tag_of}
 use borrow.Author.Tests.{eq-eqb, ne_eqb}
 use Rattle.words.proofs.Laws.{true_false}
 use Rattle.numbers.specs.Numbers.{done, inside_group}
 use Rattle.codes.specs.Codes.{opposite}
-use Rattle.undo.specs.contracts.Stand as S
 use Rattle.undo.specs.Groups.{Cut, more, cut, groups_of, joined, In, last_is, ends_with_release}
 use Rattle.undo.specs.Stands.{Mark, mark, tail_from, marks_from, marks_of, stand_at}
 use Rattle.undo.specs.Walk.{ends_from, handed, over}
@@ -219,14 +216,12 @@ module _ (ended : List ℕ → Bool) (trim : ℕ) (s : List ℕ) where
   no_group at (g ∷ gs) t h = true_false h
 
   -- where a test of the tag showed that it is no group, there is none from here on
-  pub next_stops : (at : ℕ) (x : Stand) → x ≡ next_at ended trim s at → OneOf (1 ∷ 2 ∷ 3 ∷ []) (tag_of S.the_type x) → (groups_of ended trim (drop at s)).groups ≡ []
+  pub next_stops : (at : ℕ) (x : Stand) → x ≡ next_at ended trim s at → ((f e : ℕ) → x ≡ Group f e → ⊥) → (groups_of ended trim (drop at s)).groups ≡ []
   unfolding next_at is_group
   next_stops at x h k = no_group at _ _ (ap is_group (sym h) ∙ other x k)
     where
-      other : (y : Stand) → OneOf (1 ∷ 2 ∷ 3 ∷ []) (tag_of S.the_type y) → is_group y ≡ false
-      other (Group f e) (inl i) = absurd (omega (arith, i))
-      other (Group f e) (inr (inl i)) = absurd (omega (arith, i))
-      other (Group f e) (inr (inr i)) = absurd (omega (arith, i))
+      other : (y : Stand) → ((f e : ℕ) → y ≡ Group f e → ⊥) → is_group y ≡ false
+      other (Group f e) i = absurd (i f e refl)
       other (Open p) i = refl
       other Nothing i = refl
       other (Declined n) i = refl

@@ -1,0 +1,13 @@
+-- `flags::mis` meets its contract, by what `cleared` and `byte` ensure.
+use mathlib.Core.Path.{◌∙◌}
+use Rattle.state.specs.Queue.{waits}
+use Rattle.flags.proofs.Laws.{four}
+use borrow.Author.Rules.{rules}
+use Rattle.flags.proofs.mis.Goals as goal
+
+pub returns : goal.returns
+unfolding waits
+returns c =
+    c.byte.ensures
+    ∙ (λ i. four (c.cleared.ensures i) (c.cleared-2.ensures i)
+    (c.cleared-3.ensures i) (c.cleared-4.ensures i))

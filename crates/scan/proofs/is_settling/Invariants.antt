@@ -1,0 +1,14 @@
+-- `scan::is_settling` meets its contract. The loop's invariant: it is told whether one of the keys so far has a run.
+use Prim.Native.Nat.{◌-◌, ◌≤◌}
+use native.Mathlib.Omega.{arith}
+use mathlib.Core.Path.{◌≡◌, refl}
+use mathlib.Core.Bool.{not}
+use borrow.Author.Rules.{rules}
+use Rattle.scan.proofs.Walk.{rest_below, runs_none, runs_next, runs_all}
+use Rattle.scan.proofs.is_settling.Given as goal
+
+abbrev pub invariant-loop-key : goal.invariant-loop-key
+invariant-loop-key l = (l.key ≤ 104) × (l.settling ≡ not (rest_below l.run l.key))
+
+abbrev pub decreases-loop-key : goal.decreases-loop-key
+decreases-loop-key l = 104 - l.key

@@ -1,0 +1,13 @@
+-- `scan::reading` meets its contract: by whether the contact is closed.
+use mathlib.Core.Path.{sym, ◌∙◌}
+use Rattle.contact.specs.Contact.{sight_of}
+use borrow.Author.Rules.{rules}
+use Rattle.scan.proofs.reading.Goals as goal
+
+pub returns-then-is_closed : goal.returns-then-is_closed
+unfolding sight_of
+returns-then-is_closed c = rw (sym c.is_closed.ensures ∙ c.if-is_closed.true)
+
+pub returns : goal.returns
+unfolding sight_of
+returns c = rw (sym c.is_closed.ensures ∙ c.if-is_closed.false)

@@ -1,0 +1,28 @@
+use Prim.Native.Nat.{◌-◌, ◌<◌, ◌≤◌}
+use native.Mathlib.Omega.{arith}
+use mathlib.Core.Path.{◌≡◌, sym, ◌∙◌}
+use lib.ListN.{length, drop}
+use Rattle.undo.specs.Groups.{groups_of, ends_with_release}
+use Rattle.undo.proofs.Following.{open_at, open_begin, open_on, open_ends, open_end}
+use borrow.Author.Rules.{rules}
+use Rattle.undo.proofs.group_from.Goals as goal
+
+pub loop-i-init : goal.loop-i-init
+loop-i-init c =
+    let a = c.args in
+    (omega arith, (omega arith, open_begin (ends_with_release a.trim) a.trim a.codes.now a.at c.requires.0 c.requires.1))
+
+pub returns-then-has_ended : goal.returns-then-has_ended
+returns-then-has_ended c =
+    let l = c.loop-i in
+    open_ends _ _ _ l.i l.invariant.0 c.loop-i-test.true l.invariant.1.1 (sym c.has_ended.ensures ∙ c.if-has_ended.true)
+
+pub loop-i-preserved : goal.loop-i-preserved
+loop-i-preserved c =
+    let l = c.loop-i in
+    (omega arith, (omega arith, open_on _ _ _ l.i l.invariant.0 c.loop-i-test.true l.invariant.1.1 (sym c.has_ended.ensures ∙ c.if-has_ended.false)))
+
+pub returns : goal.returns
+returns c =
+    let l = c.loop-i in
+    open_end _ _ _ _ l.i l.invariant.0 l.invariant.1.0 c.loop-i-test.false l.invariant.1.1
