@@ -1,0 +1,48 @@
+-- `access::fill_lent` meets its contract: a run that is at hand is given, and any other is read byte for byte.
+use Prim.Native.Nat.{ℕ, ◌-◌}
+use native.Mathlib.Omega.{arith}
+use mathlib.Core.Path.{◌≡◌, sym, ap, ◌∙◌}
+use mathlib.Core.List.{List}
+use lib.ListN.{length}
+use Rattle.registers.proofs.Laws.{run_from, run_to}
+use Rattle.access.specs.Pins.{items}
+use Rattle.access.proofs.Pins.{kept_given, kept_room, edge_given}
+use borrow.Author.Rules.{rules}
+use Rattle.access.proofs.fill_lent.Goals as goal
+
+pub give-requires : goal.give-requires
+give-requires c =
+    let a = c.args in
+    let run = sym c.is_kept_run.ensures ∙ c.if-is_kept_run.true in
+    let room = kept_room a.kept.now a.edge.now a.level.now a.size a.porirq a.mis (length a.out.now) a.first run in
+    omega (arith, room, c.place.ensures)
+
+pub returns-then-is_kept_run : goal.returns-then-is_kept_run
+returns-then-is_kept_run c =
+    let a = c.args in
+    let run = sym c.is_kept_run.ensures ∙ c.if-is_kept_run.true in
+    c.give.ensures ∙ ap (λ (p : ℕ). items a.kept.now p (length a.out.now)) c.place.ensures
+    ∙ kept_given a.kept.now a.edge.now a.level.now a.size a.porirq a.mis (length a.out.now) a.first run
+
+pub overflow_sub-first : goal.overflow_sub-first
+overflow_sub-first c =
+    let a = c.args in
+    run_from 0xD6 0xDC a.first (length a.out.now) (sym c.is_run_in.ensures ∙ c.if-is_run_in.true)
+
+pub give-requires-then-is_run_in : goal.give-requires-then-is_run_in
+give-requires-then-is_run_in c =
+    let a = c.args in
+    let run = sym c.is_run_in.ensures ∙ c.if-is_run_in.true in
+    let n = length a.out.now in
+    omega (arith, run_from 0xD6 0xDC a.first n run, run_to 0xD6 0xDC a.first n run)
+
+pub returns-then-is_run_in : goal.returns-then-is_run_in
+returns-then-is_run_in c =
+    let a = c.args in
+    let run = sym c.is_run_in.ensures ∙ c.if-is_run_in.true in
+    let n = length a.out.now in
+    c.give-then-is_run_in.ensures ∙ ap (λ (l : List ℕ). items l (a.first - 0xD6) n) c.edges-edges.ensures
+    ∙ edge_given a.kept.now a.edge.now a.level.now a.size a.porirq a.mis n a.first (run_from 0xD6 0xDC a.first n run) (run_to 0xD6 0xDC a.first n run)
+
+pub returns : goal.returns
+returns c = c.fill_each.ensures

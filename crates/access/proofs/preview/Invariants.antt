@@ -1,0 +1,22 @@
+-- `access::preview` meets its contract. The loop's invariant, of every state that lends its queue: the queue is that of i bytes read, and the places below i hold the codes.
+use Prim.Native.Nat.{◌-◌, ◌≤◌}
+use native.Mathlib.Omega.{arith}
+use mathlib.Core.Path.{◌≡◌, refl, sym, ap, ◌∙◌}
+use lib.ListN.{length, set, length-set}
+use Rattle.words.proofs.Tables.{replaced, replaced_none, replaced_next, replaced_all}
+use Rattle.state.specs.declared.Module.{Module}
+use Rattle.state.specs.Module.{queue, with_queue}
+use Rattle.access.specs.Accesses.{read_all}
+use Rattle.access.proofs.Laws.{taken_code, code, codes_next, codes_all}
+use borrow.Author.Rules.{rules}
+use Rattle.access.proofs.preview.Given as goal
+
+abbrev pub invariant-loop-i : goal.invariant-loop-i
+invariant-loop-i l =
+    (length l.out ≡ length l.initial.out) × (l.i ≤ length l.initial.out)
+    × ((m : Module) →
+    let before = with_queue m (queue l.initial.places l.initial.count m.relint) in
+    (with_queue m (queue l.places l.count m.relint) ≡ read_all before 0x10 l.i) × (l.out ≡ replaced (code before) l.i l.initial.out))
+
+abbrev pub decreases-loop-i : goal.decreases-loop-i
+decreases-loop-i l = length l.out - l.i

@@ -1,0 +1,18 @@
+-- `sound::keys_sound` meets its contract. The loop's invariant: the keys of the rows below are sound.
+use Prim.Native.Nat.{◌*◌, ◌≤◌, ◌-◌}
+use native.Mathlib.Omega.{arith}
+use mathlib.Core.Path.{◌≡◌, refl, sym, ap, ◌∙◌}
+use mathlib.Core.Bool.{true, false}
+use lib.ListN.{get_or}
+use borrow.Author.Tests.{not-true, not-false}
+use Rattle.words.specs.Words.{all_below}
+use Rattle.sound.specs.Sound.{key_sound, keys_sound}
+use Rattle.sound.proofs.Laws.{keys_yes, keys_no}
+use borrow.Author.Rules.{rules}
+use Rattle.sound.proofs.keys_sound.Given as goal
+
+abbrev pub invariant-loop-row : goal.invariant-loop-row
+invariant-loop-row l = (l.row ≤ 8) × (all_below (λ j. key_sound l.size j (get_or l.held j false) (get_or l.run j 0)) (13 * l.row) ≡ true)
+
+abbrev pub decreases-loop-row : goal.decreases-loop-row
+decreases-loop-row l = 8 - l.row
