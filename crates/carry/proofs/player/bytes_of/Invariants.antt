@@ -1,0 +1,13 @@
+-- `player::bytes_of` meets its contract. The loop's invariant: the first i numbers are bytes, and 0 is behind them.
+use Prim.Native.Nat.{◌-◌, ◌≤◌}
+use native.Mathlib.Omega.{arith}
+use mathlib.Core.Path.{◌≡◌, ap, ◌∙◌}
+use borrow.Author.Rules.{rules}
+use Rattle.carry.proofs.Playing.{lowered, lowered_none, lowered_next, lowered_all}
+use Rattle.carry.proofs.player.bytes_of.Given as goal
+
+abbrev pub invariant-loop-i : goal.invariant-loop-i
+invariant-loop-i l = (l.i ≤ 32) × (l.bytes ≡ lowered l.values l.i)
+
+abbrev pub decreases-loop-i : goal.decreases-loop-i
+decreases-loop-i l = 32 - l.i

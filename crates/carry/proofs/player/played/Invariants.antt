@@ -1,0 +1,17 @@
+-- `player::played` meets its contract. The loop's invariant: the place is a boundary between records, and playing on from it gives what playing all gives.
+use Prim.Native.Nat.{◌+◌, ◌*◌, ◌-◌}
+use mathlib.Core.Path.{◌≡◌, sym, ◌∙◌}
+use borrow.Author.Rules.{rules}
+use lib.ListN.{length}
+use Rattle.bits.specs.Bits.{bits_from}
+use Rattle.carry.specs.Carried.{calls_of, unpack}
+use Rattle.carry.specs.Player.{played_as}
+use Rattle.carry.proofs.Reading.{Boundary, boundary_front, boundary_next, boundary_less, end_here}
+use Rattle.carry.proofs.Playing.{play_on, play_front, play_end, play_next, next_there, told_fits}
+use Rattle.carry.proofs.player.played.Given as goal
+
+abbrev pub invariant-loop-rest : goal.invariant-loop-rest
+invariant-loop-rest l = Boundary l.bytes l.byte l.bit × (play_on l.m (calls_of (bits_from l.bytes (l.byte * 8 + l.bit))) ≡ (played_as (unpack l.bytes)).after)
+
+abbrev pub decreases-loop-rest : goal.decreases-loop-rest
+decreases-loop-rest l = length l.bytes * 8 - (l.byte * 8 + l.bit)

@@ -1,0 +1,20 @@
+-- `reader::count_at` meets its contract: five bits spell a number below 32.
+use Prim.Native.Nat.{suc, ◌+◌}
+use native.Mathlib.Numerals.{add-one}
+use native.Mathlib.Omega.{arith}
+use mathlib.Core.Path.{ap, ◌∙◌}
+use Rattle.bits.specs.Bits.{bits_from}
+use Rattle.carry.proofs.Reading.{count_low}
+use borrow.Author.Rules.{rules}
+use Rattle.carry.proofs.reader.count_at.Goals as goal
+
+pub overflow_add-result : goal.overflow_add-result
+overflow_add-result c =
+    let at = c.args in
+    omega (arith, count_low (bits_from at.bytes.now (at.bit + 10)) c.number_at.result c.number_at.ensures)
+
+pub returns : goal.returns
+returns c =
+    let at = c.args in
+    let l = count_low (bits_from at.bytes.now (at.bit + 10)) c.number_at.result c.number_at.ensures in
+    (add-one c.number_at.result ∙ ap suc c.number_at.ensures, omega arith)
