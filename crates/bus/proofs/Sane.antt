@@ -19,7 +19,7 @@ use Rattle.wire.specs.declared.Wire.{Wire}
 use Rattle.wire.specs.Wire as wire
 use Rattle.demands.specs.Machine.{Call, write, read, after, fits}
 use Rattle.demands.specs.Ours as calls
-use Rattle.bus.specs.Bus.{Step, reads, writes, takes, gives, stops, drops, Event, bus, own, Host, host, told, Story, goes_on, story, fit}
+use Rattle.bus.specs.Bus.{Step, reads, writes, takes, gives, stops, drops, Event, bus, own, Host, told, Story, goes_on, story, fit}
 use Rattle.bus.specs.Ours.{twice, access_of, made, moved, steps, ours}
 use Rattle.bus.proofs.Twice.{rouses_fit, twice_fit}
 use Rattle.bus.proofs.Wired.{low, Wired, wired_start, wired_idle, wired_reads, wired_writes, wired_takes, wired_gives}

@@ -7,7 +7,7 @@
 --    access_of w n     the access of a transfer that stops, of n bytes
 --    made m w n        the calls that a stop makes, where the bus says that n bytes were sent
 --    ours              the part
-use Rattle.std.specs.Prelude.{ℕ, suc, List, [], ◌∷◌, take, replicate, eqb}
+use Rattle.std.specs.Prelude.{ℕ, List, [], ◌∷◌, take, replicate, eqb}
 use Rattle.words.specs.Words.{◌if◌, ◌else◌}
 use Rattle.state.specs.declared.Module.{Module}
 use Rattle.wire.specs.declared.Wire.{Wire}

@@ -19,7 +19,7 @@ use Rattle.words.proofs.Lists.{by_test}
 use Rattle.words.proofs.Tables.{table_at, table_same}
 use Rattle.keys.specs.Keys.{code, sample}
 use Rattle.contact.specs.declared.Contact.{Contact}
-use Rattle.sheet.specs.Sheet.{Past, looked, bounce, size, mask, history, held, changed, change, changes_below, changes, waiting, relint, marks, rsint, rklint, kept_at, pin_samples, newest, pending, porirq, settling_below, calm, quiet, asleep}
+use Rattle.sheet.specs.Sheet.{Past, looked, bounce, size, mask, held, change, changes_below, changes, waiting, relint, marks, rsint, rklint, kept_at, pin_samples, newest, pending, porirq, settling_below, calm, quiet, asleep}
 use Rattle.sheet.proofs.Contacts.{contact_of, contact_right}
 use Rattle.sheet.proofs.Facts.{waiting_most}
 use Rattle.sheet.proofs.Sleep.{quiet_sleeps, look_counts}

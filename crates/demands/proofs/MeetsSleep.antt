@@ -6,15 +6,14 @@
 --    ours-never-27-twice    and of ours
 --    never-27-twice-wide    the same over calls and blocks, of any machine with blocks that meets the demands
 -- Assumes nothing.
-use Prim.Native.Nat.{ℕ, zero, suc, ◌+◌, ◌/◌, ◌≤◌}
+use Prim.Native.Nat.{ℕ, zero, suc, ◌+◌, ◌≤◌}
 use native.Mathlib.Omega.{arith}
 use mathlib.Core.Path.{◌≡◌, sym, ap, ◌∙◌}
-use mathlib.Core.Bool.{true, cond}
+use mathlib.Core.Bool.{cond}
 use mathlib.Core.List.{List, [], ◌∷◌, ◌++◌}
 use borrow.Author.Tests.{leb-true}
 use lib.Dec.{eqb}
 use lib.ListN.{length, take, drop}
-use Rattle.words.specs.Words.{all}
 use Rattle.words.proofs.Lists.{by_test}
 use Rattle.registers.specs.Registers.{register_at}
 use Rattle.registers.specs.Runs.{next}
@@ -23,7 +22,7 @@ use Rattle.sheet.specs.Sheet.{Past, looked, wrote, got, calm, quiet_looks}
 use Rattle.state.specs.declared.Module.{Module}
 use Rattle.demands.specs.Machine.{Call, reset, look, write, read, held, interrupt, pins, Machine, after, wrotes, gots, happened, noted, done}
 use Rattle.demands.specs.Sleep.{SleepDemand, looks_in, NotTwice, looks_among, NotTwiceWide}
-use Rattle.demands.specs.Blocks.{Wide, BlockDemand, Act, call, block, lookeds, fit, after_acts, past_of, DemandsWide}
+use Rattle.demands.specs.Blocks.{Wide, BlockDemand, Act, call, block, lookeds, after_acts, past_of, DemandsWide}
 use Rattle.demands.specs.Ours.{ours}
 use Rattle.demands.specs.Shown.{shown}
 use Rattle.demands.proofs.Blocks.{block_few}

@@ -14,7 +14,6 @@ use lib.ListN.{replicate}
 use lib.Dec.{ltb}
 use borrow.Author.Tests.{ltb-true}
 use Rattle.words.proofs.Lists.{all_anywhere, all_replicate}
-use Rattle.registers.specs.Runs.{next}
 use Rattle.state.specs.declared.Module.{Module}
 use Rattle.state.specs.Module.{fresh, with_bounce, with_mask}
 use Rattle.state.specs.Typed.{Typed}

@@ -36,7 +36,7 @@ use Rattle.registers.specs.declared.Register.TheVariants.{KBDBOUNCE, KBDSIZE, KB
 use Rattle.registers.specs.declared.Access.{Access}
 use Rattle.registers.specs.declared.Access.TheVariants.{Read, Write}
 use Rattle.registers.specs.Registers.{pin_reads, pin_writes, register_at, address, allowed, ◌is◌}
-use Rattle.registers.specs.Runs.{next, addresses, run_allowed}
+use Rattle.registers.specs.Runs.{addresses, run_allowed}
 use Rattle.judge.specs.Lines.{high, byte_fits, sizes_fit, sample_lines, access_lines, read_lines, write_lines, key_lines, pin_lines}
 use Rattle.state.specs.declared.Module.{Module}
 use Rattle.state.specs.Module.{woken}

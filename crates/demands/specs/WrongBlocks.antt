@@ -8,7 +8,7 @@
 --    late_length      the length is judged after the looks were made
 --    newest_only      the last look of a block alone is made
 --    mute             a block that stops at a look gives 0
-use Rattle.std.specs.Prelude.{ℕ, zero, suc, ◌+◌, ◌-◌, ◌*◌, ◌/◌, ◌%◌, List, length, take, drop, eqb}
+use Rattle.std.specs.Prelude.{ℕ, zero, suc, ◌-◌, ◌*◌, ◌/◌, ◌%◌, List, length, take, drop, eqb}
 use Rattle.words.specs.Words.{◌if◌, ◌else◌}
 use Rattle.state.specs.declared.Module.{Module}
 use Rattle.demands.specs.Machine.{look}

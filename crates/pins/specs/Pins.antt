@@ -16,7 +16,7 @@
 --    edges k e             the six bytes of GPIORIS and GPIOMIS, in front of a list as long as the kept bytes
 --    byte_of p size a      the byte that a read at the address a gives
 --    driven p size, levels p size    the pins that are driven, as bits, and those of them that are driven to 1
-use Rattle.std.specs.Prelude.{ℕ, ◌+◌, ◌-◌, Bool, true, false, ◌&&◌, ◌||◌, List, [], ◌∷◌, get_or, set, replicate, ltb}
+use Rattle.std.specs.Prelude.{ℕ, ◌+◌, ◌-◌, Bool, true, false, ◌&&◌, ◌||◌, List, ◌∷◌, get_or, set, replicate, ltb}
 use Rattle.words.specs.Words.{◌if◌, ◌else◌, within, bit, table}
 use Rattle.pins.specs.declared.Pins.{Pins}
 use Rattle.pins.specs.declared.What.{What}

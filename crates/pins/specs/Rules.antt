@@ -14,7 +14,7 @@
 --    reads K E L size a    what a read at the address a gives, E being the pins whose edge is pending
 --
 -- "E6" is document 02's request, "DS" the data sheet of the LM8328, with its table's number.
-use Rattle.std.specs.Prelude.{ℕ, ◌+◌, ◌-◌, ◌*◌, ◌/◌, ◌%◌, ◌^◌, Bool, true, false, not, ◌&&◌, ◌||◌, ltb, eqb}
+use Rattle.std.specs.Prelude.{ℕ, ◌+◌, ◌-◌, ◌*◌, ◌/◌, ◌%◌, ◌^◌, Bool, not, ◌&&◌, ◌||◌, ltb, eqb}
 use Rattle.std.specs.Bool.{beq}
 use Rattle.words.specs.Words.{◌if◌, ◌else◌, all_below, within, bit, table}
 use Rattle.words.specs.Bits.{binary}

@@ -16,7 +16,7 @@ use lib.ListN.{get_or}
 use Rattle.words.specs.Words.{all, bit}
 use Rattle.words.proofs.Laws.{true_false}
 use Rattle.words.proofs.Lists.{by_test}
-use Rattle.keys.specs.Keys.{row_of, col_of, code, key_of, in_size, key_in, sample, hidden}
+use Rattle.keys.specs.Keys.{row_of, col_of, key_of, in_size, key_in, sample, hidden}
 use Rattle.keys.proofs.Laws.{row_yes, col_yes, place_row, place_col, code_key, hidden_matrix}
 use Rattle.contact.specs.Contact as contact
 use Rattle.contact.specs.Contact.{samples}

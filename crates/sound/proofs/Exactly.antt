@@ -18,7 +18,7 @@ use borrow.Author.Tests.{le-leb, leb-true, leb-false, eqb-true, eqb-false, eq-eq
 use Rattle.words.proofs.Laws.{true_false, and_left, and_right, and_both}
 use Rattle.words.proofs.Lists.{by_test, all_at, all_of}
 use Rattle.keys.specs.Keys.{is_key, key_at, row_of, key_of, acceptable, in_size, key_in}
-use Rattle.keys.proofs.Laws.{key_row, key_col, row_low, col_low, place_row, place_col, back_row, back_col, rows_most}
+use Rattle.keys.proofs.Laws.{key_row, key_col, place_row, place_col, back_row, back_col, rows_most}
 use Rattle.state.specs.declared.Module.{Module}
 use Rattle.state.specs.Module.{queue_of}
 use Rattle.state.specs.Queue.{waiting}

@@ -1,7 +1,7 @@
 -- The count of quiet looks, and the sleep: document 02, E7.
 --
 --    counted z calm    the count and the sleep after a look; calm: it had no change, and no contact is settling
-use Rattle.std.specs.Prelude.{ℕ, ◌+◌, min, Bool, false, leb}
+use Rattle.std.specs.Prelude.{◌+◌, min, Bool, false, leb}
 use Rattle.words.specs.Words.{◌if◌, ◌else◌}
 use Rattle.state.specs.Module.{Sleep, sleep}
 

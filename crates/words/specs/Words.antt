@@ -10,7 +10,7 @@
 --    bit c b          bit c of the number b is 1
 --    without c f b    the flag f, cleared if bit c of the byte b is 1
 --    table f n        the list f 0, f 1, .. of n items
-use Rattle.std.specs.Prelude.{ℕ, zero, suc, ◌+◌, ◌/◌, ◌%◌, ◌^◌, Bool, true, false, cond, ◌&&◌, ◌||◌, List, [], ◌∷◌, ◌++◌, leb, eqb}
+use Rattle.std.specs.Prelude.{ℕ, zero, suc, ◌/◌, ◌%◌, ◌^◌, Bool, true, false, cond, ◌&&◌, ◌||◌, List, [], ◌∷◌, ◌++◌, leb, eqb}
 
 infixl 6 ◌if◌
 infixl 5 ◌else◌

@@ -1,8 +1,6 @@
-use Prim.Native.Nat.{ℕ, ◌<◌}
 use native.Mathlib.Omega.{arith}
 use mathlib.Core.Path.{◌∙◌}
-use lib.ListN.{length, length-take, length-drop, length-set}
-use borrow.Author.Rules.{rules}
+use lib.ListN.{length, length-set}
 use Rattle.state.specs.Module.{queue, with_queue}
 use Rattle.access.proofs.Laws.{taken_code, none_left, read_end, none_read, rest, back_length, read_more, evtcode_at, evtcode_stays}
 use Rattle.access.proofs.+fetch.Goals as goal

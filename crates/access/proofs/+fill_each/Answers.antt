@@ -1,10 +1,9 @@
-use Prim.Native.Nat.{ℕ, ◌<◌}
+use Prim.Native.Nat.{◌<◌}
 use native.Mathlib.Omega.{arith}
-use lib.ListN.{length, length-take, length-drop, length-set}
+use lib.ListN.{length, length-set}
 use Rattle.access.specs.Pins.{pin_byte}
 use Rattle.access.proofs.Laws.{back_length}
 use Rattle.access.proofs.Pins.{along_end, along_last, along_more}
-use borrow.Author.Rules.{rules}
 use Rattle.access.proofs.+fill_each.Goals as goal
 
 pub returns-then-out-lt1 : goal.returns-then-out-lt1

@@ -1,8 +1,6 @@
-use Prim.Native.Nat.{ℕ, ◌<◌}
+use Prim.Native.Nat.{◌<◌}
 use native.Mathlib.Omega.{arith}
 use lib.ListN.{length, length-take, length-drop, length-set}
-use borrow.Author.Rules.{rules}
-use Rattle.state.specs.declared.Module.{Module}
 use Rattle.access.specs.Lent.{lent}
 use Rattle.access.proofs.Laws.{read_end, read_last, rest_length, back_length, read_more}
 use Rattle.access.proofs.Pins.{next_most, told_no_pin}

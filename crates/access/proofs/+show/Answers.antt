@@ -1,8 +1,6 @@
-use Prim.Native.Nat.{ℕ, ◌+◌, ◌<◌}
+use Prim.Native.Nat.{◌+◌, ◌<◌}
 use native.Mathlib.Omega.{arith}
-use lib.ListN.{length, length-take, length-drop, length-set}
-use borrow.Author.Rules.{rules}
-use Rattle.state.specs.declared.Module.{Module}
+use lib.ListN.{length-take, length-drop, length-set}
 use Rattle.state.specs.Module.{with_rsint, with_seen}
 use Rattle.access.proofs.Laws.{shown_code, shown_picture, read_end, back_length, read_more, picture_at, picture_next}
 use Rattle.access.proofs.+show.Goals as goal

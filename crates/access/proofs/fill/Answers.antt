@@ -9,7 +9,6 @@ use Rattle.registers.specs.declared.Access.TheVariants.{Read}
 use Rattle.registers.proofs.Laws.{picture_from, picture_to}
 use Rattle.access.proofs.Laws.{read_at}
 use Rattle.access.proofs.Pins.{keypad_run}
-use borrow.Author.Rules.{rules}
 use Rattle.access.proofs.fill.Goals as goal
 
 pub returns-then-stays : goal.returns-then-stays

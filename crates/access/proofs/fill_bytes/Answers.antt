@@ -1,5 +1,4 @@
 -- `access::fill_bytes` meets its contract: what `fill_from` ensures of the parts lent holds of this very state.
-use borrow.Author.Rules.{rules}
 use Rattle.access.proofs.fill_bytes.Goals as goal
 
 pub returns : goal.returns

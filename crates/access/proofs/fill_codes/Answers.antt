@@ -1,5 +1,4 @@
 -- `access::fill_codes` meets its contract: what `fetch` ensures of the queue lent holds of this very state.
-use borrow.Author.Rules.{rules}
 use Rattle.access.proofs.fill_codes.Goals as goal
 
 pub returns : goal.returns

@@ -1,9 +1,7 @@
-use Prim.Native.Nat.{◌≤◌, ◌-◌}
 use native.Mathlib.Omega.{arith}
 use mathlib.Core.Path.{◌≡◌, refl, sym, ap, ◌∙◌}
 use lib.ListN.{length, set, length-set}
-use Rattle.words.proofs.Tables.{replaced, replaced_none, replaced_next, replaced_all}
-use borrow.Author.Rules.{rules}
+use Rattle.words.proofs.Tables.{replaced_none, replaced_next, replaced_all}
 use Rattle.access.proofs.fill_empty.Goals as goal
 
 pub loop-i-init : goal.loop-i-init

@@ -1,10 +1,8 @@
 -- `access::fill_empty` meets its contract. The loop's invariant: the places below i hold 0x7F.
 use Prim.Native.Nat.{◌≤◌, ◌-◌}
-use native.Mathlib.Omega.{arith}
-use mathlib.Core.Path.{◌≡◌, refl, sym, ap, ◌∙◌}
-use lib.ListN.{length, set, length-set}
-use Rattle.words.proofs.Tables.{replaced, replaced_none, replaced_next, replaced_all}
-use borrow.Author.Rules.{rules}
+use mathlib.Core.Path.{◌≡◌}
+use lib.ListN.{length}
+use Rattle.words.proofs.Tables.{replaced}
 use Rattle.access.proofs.fill_empty.Given as goal
 
 abbrev pub invariant-loop-i : goal.invariant-loop-i

@@ -1,13 +1,12 @@
 -- `access::fill_lent` meets its contract: a run that is at hand is given, and any other is read byte for byte.
 use Prim.Native.Nat.{ℕ, ◌-◌}
 use native.Mathlib.Omega.{arith}
-use mathlib.Core.Path.{◌≡◌, sym, ap, ◌∙◌}
+use mathlib.Core.Path.{sym, ap, ◌∙◌}
 use mathlib.Core.List.{List}
 use lib.ListN.{length}
 use Rattle.registers.proofs.Laws.{run_from, run_to}
 use Rattle.access.specs.Pins.{items}
 use Rattle.access.proofs.Pins.{kept_given, kept_room, edge_given}
-use borrow.Author.Rules.{rules}
 use Rattle.access.proofs.fill_lent.Goals as goal
 
 pub give-requires : goal.give-requires

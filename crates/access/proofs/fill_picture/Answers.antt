@@ -1,5 +1,4 @@
 -- `access::fill_picture` meets its contract: what `show` ensures of the parts lent holds of this very state, since the masks are those of its held keys.
-use borrow.Author.Rules.{rules}
 use Rattle.access.proofs.fill_picture.Goals as goal
 
 pub returns : goal.returns

@@ -1,10 +1,9 @@
-use Prim.Native.Nat.{◌+◌, ◌-◌, ◌≤◌}
+use Prim.Native.Nat.{◌+◌}
 use native.Mathlib.Omega.{arith}
 use mathlib.Core.Path.{◌≡◌, refl, sym, ap, ◌∙◌}
 use lib.ListN.{length, get_or, set, length-set}
-use Rattle.words.proofs.Tables.{replaced, replaced_none, replaced_next, replaced_all}
+use Rattle.words.proofs.Tables.{replaced_none, replaced_next, replaced_all}
 use Rattle.access.proofs.Pins.{items_all}
-use borrow.Author.Rules.{rules}
 use Rattle.access.proofs.give.Goals as goal
 
 pub loop-i-init : goal.loop-i-init

@@ -1,11 +1,8 @@
 -- `access::give` meets its contract. The loop's invariant: the places below i hold the bytes at hand.
 use Prim.Native.Nat.{◌+◌, ◌-◌, ◌≤◌}
-use native.Mathlib.Omega.{arith}
-use mathlib.Core.Path.{◌≡◌, refl, sym, ap, ◌∙◌}
-use lib.ListN.{length, get_or, set, length-set}
-use Rattle.words.proofs.Tables.{replaced, replaced_none, replaced_next, replaced_all}
-use Rattle.access.proofs.Pins.{items_all}
-use borrow.Author.Rules.{rules}
+use mathlib.Core.Path.{◌≡◌}
+use lib.ListN.{length, get_or}
+use Rattle.words.proofs.Tables.{replaced}
 use Rattle.access.proofs.give.Given as goal
 
 abbrev pub invariant-loop-i : goal.invariant-loop-i

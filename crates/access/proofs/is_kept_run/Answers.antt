@@ -3,7 +3,6 @@ use mathlib.Core.Path.{sym, ◌∙◌}
 use mathlib.Core.Bool.{◌||◌}
 use Rattle.registers.proofs.Laws.{run_in}
 use Rattle.access.specs.Pins.{kept_run}
-use borrow.Author.Rules.{rules}
 use Rattle.access.proofs.is_kept_run.Goals as goal
 
 pub returns-then-is_run_in : goal.returns-then-is_run_in

@@ -4,7 +4,6 @@ use mathlib.Core.List.{List}
 use mathlib.Core.Bool.{Bool}
 use lib.ListN.{length}
 use Rattle.access.specs.Pins.{pin_byte, along}
-use borrow.Author.Rules.{rules}
 use Rattle.access.proofs.peek_pins.Goals as goal
 
 pub returns : goal.returns

@@ -3,7 +3,6 @@ use mathlib.Core.Path.{sym, ap, ◌∙◌}
 use mathlib.Core.Bool.{Bool}
 use Rattle.flags.specs.Flags.{irqst_of}
 use Rattle.access.proofs.Pins.{irqst_byte, other_byte}
-use borrow.Author.Rules.{rules}
 use Rattle.access.proofs.pin_byte.Goals as goal
 
 pub returns-then-address-eq-IRQST : goal.returns-then-address-eq-IRQST

@@ -1,13 +1,10 @@
-use Prim.Native.Nat.{◌-◌, ◌≤◌}
 use native.Mathlib.Omega.{arith}
 use mathlib.Core.Path.{◌≡◌, refl, sym, ap, ◌∙◌}
 use lib.ListN.{length, set, length-set}
 use Rattle.words.proofs.Tables.{replaced, replaced_none, replaced_next, replaced_all}
-use Rattle.state.specs.declared.Module.{Module}
 use Rattle.state.specs.Module.{queue, with_queue}
 use Rattle.access.specs.Accesses.{read_all}
 use Rattle.access.proofs.Laws.{taken_code, code, codes_next, codes_all}
-use borrow.Author.Rules.{rules}
 use Rattle.access.proofs.preview.Goals as goal
 
 pub loop-i-init : goal.loop-i-init

@@ -1,14 +1,12 @@
 -- `access::preview` meets its contract. The loop's invariant, of every state that lends its queue: the queue is that of i bytes read, and the places below i hold the codes.
 use Prim.Native.Nat.{◌-◌, ◌≤◌}
-use native.Mathlib.Omega.{arith}
-use mathlib.Core.Path.{◌≡◌, refl, sym, ap, ◌∙◌}
-use lib.ListN.{length, set, length-set}
-use Rattle.words.proofs.Tables.{replaced, replaced_none, replaced_next, replaced_all}
+use mathlib.Core.Path.{◌≡◌}
+use lib.ListN.{length}
+use Rattle.words.proofs.Tables.{replaced}
 use Rattle.state.specs.declared.Module.{Module}
 use Rattle.state.specs.Module.{queue, with_queue}
 use Rattle.access.specs.Accesses.{read_all}
-use Rattle.access.proofs.Laws.{taken_code, code, codes_next, codes_all}
-use borrow.Author.Rules.{rules}
+use Rattle.access.proofs.Laws.{code}
 use Rattle.access.proofs.preview.Given as goal
 
 abbrev pub invariant-loop-i : goal.invariant-loop-i

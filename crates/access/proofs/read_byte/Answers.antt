@@ -7,7 +7,6 @@ use Rattle.registers.specs.Registers.{◌is◌, address}
 use Rattle.flags.specs.Flags.{ris, mis}
 use Rattle.access.specs.Bytes.{byte_of, read_out}
 use Rattle.access.proofs.Laws.{read_by, shown_code, taken_code}
-use borrow.Author.Rules.{rules}
 use Rattle.access.proofs.read_byte.Goals as goal
 
 pub returns-in-KBDBOUNCE : goal.returns-in-KBDBOUNCE

@@ -3,7 +3,6 @@ use mathlib.Core.Path.{◌∙◌}
 use Rattle.state.specs.Module.{with_rsint, with_rklint, with_relint, with_porirq, with_pins}
 use Rattle.access.specs.Bytes.{written}
 use Rattle.access.proofs.Laws.{written_by}
-use borrow.Author.Rules.{rules}
 use Rattle.access.proofs.written.Goals as goal
 
 pub returns-in-KBDBOUNCE : goal.returns-in-KBDBOUNCE

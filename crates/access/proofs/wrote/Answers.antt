@@ -1,8 +1,5 @@
-use Prim.Native.Nat.{◌≤◌, ◌-◌}
-use mathlib.Core.Path.{◌≡◌, refl, sym, ◌∙◌}
-use lib.ListN.{length, drop}
+use mathlib.Core.Path.{refl, sym, ◌∙◌}
 use borrow.Author.Rules.{rules}
-use Rattle.access.specs.Accesses.{wrote}
 use Rattle.access.proofs.Laws.{wrote_end, wrote_next}
 use Rattle.access.proofs.wrote.Goals as goal
 

@@ -1,10 +1,8 @@
 -- `access::wrote` meets its contract. The loop's invariant: the whole write does what is left of it does to the state so far.
 use Prim.Native.Nat.{◌≤◌, ◌-◌}
-use mathlib.Core.Path.{◌≡◌, refl, sym, ◌∙◌}
+use mathlib.Core.Path.{◌≡◌}
 use lib.ListN.{length, drop}
-use borrow.Author.Rules.{rules}
 use Rattle.access.specs.Accesses.{wrote}
-use Rattle.access.proofs.Laws.{wrote_end, wrote_next}
 use Rattle.access.proofs.wrote.Given as goal
 
 abbrev pub invariant-loop-i : goal.invariant-loop-i

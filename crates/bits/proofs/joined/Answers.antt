@@ -2,7 +2,7 @@
 use mathlib.Core.List.{◌++◌}
 use lib.ListN.{take}
 use Rattle.bits.specs.Bits.{bits_of}
-use Rattle.bits.proofs.Windows.{one_shifted, power_positive, kept_fits, joined_number, number_most}
+use Rattle.bits.proofs.Windows.{kept_fits, joined_number, number_most}
 use borrow.Author.Rules.{rules}
 use Rattle.bits.proofs.joined.Goals as goal
 

@@ -1,5 +1,5 @@
 -- `bits::number_at` meets its contract: its bits are a window on 24.
-use Rattle.bits.proofs.Windows.{power_positive, one_shifted, window_fits, window_there}
+use Rattle.bits.proofs.Windows.{window_fits, window_there}
 use borrow.Author.Rules.{rules}
 use Rattle.bits.proofs.number_at.Goals as goal
 

@@ -1,8 +1,6 @@
-use Prim.Native.Nat.{◌≤◌, ◌-◌, ◌*◌}
+use Prim.Native.Nat.{◌*◌}
 use native.Mathlib.Omega.{arith}
 use mathlib.Core.Path.{◌≡◌, refl, sym, ap, ◌∙◌}
-use mathlib.Core.List.{◌++◌}
-use lib.ListN.{replicate}
 use borrow.Author.Rules.{rules}
 use Rattle.bits.specs.Bits.{number, numbers, bits_from}
 use Rattle.bits.proofs.Laid.{from_more}

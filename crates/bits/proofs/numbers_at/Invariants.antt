@@ -1,13 +1,9 @@
 -- `bits::numbers_at` meets its contract. The loop's invariant: the first i numbers are found, and 0 is behind them.
-use Prim.Native.Nat.{◌≤◌, ◌-◌, ◌*◌}
-use native.Mathlib.Omega.{arith}
-use mathlib.Core.Path.{◌≡◌, refl, sym, ap, ◌∙◌}
+use Prim.Native.Nat.{◌≤◌, ◌-◌}
+use mathlib.Core.Path.{◌≡◌}
 use mathlib.Core.List.{◌++◌}
 use lib.ListN.{replicate}
-use borrow.Author.Rules.{rules}
-use Rattle.bits.specs.Bits.{number, numbers, bits_from}
-use Rattle.bits.proofs.Laid.{from_more}
-use Rattle.bits.proofs.Stores.{place_low, found_next}
+use Rattle.bits.specs.Bits.{numbers, bits_from}
 use Rattle.bits.proofs.numbers_at.Given as goal
 
 abbrev pub invariant-loop-i : goal.invariant-loop-i

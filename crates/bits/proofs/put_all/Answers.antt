@@ -1,11 +1,10 @@
-use Prim.Native.Nat.{◌≤◌, ◌-◌}
 use native.Mathlib.Omega.{arith}
-use mathlib.Core.Path.{◌≡◌, refl, sym, ◌∙◌}
+use mathlib.Core.Path.{refl, sym, ◌∙◌}
 use mathlib.Core.List.{[]}
-use lib.ListN.{length, take}
+use lib.ListN.{length}
 use lib.Seq.{take_all}
 use borrow.Author.Rules.{rules}
-use Rattle.bits.specs.Bits.{spelled, laid}
+use Rattle.bits.specs.Bits.{spelled}
 use Rattle.bits.proofs.Stores.{place_low, place_next, laid_again, put_next}
 use Rattle.bits.proofs.put_all.Goals as goal
 

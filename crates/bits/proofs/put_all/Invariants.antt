@@ -1,13 +1,8 @@
 -- `bits::put_all` meets its contract. The loop's invariant: the first i numbers are laid.
 use Prim.Native.Nat.{◌≤◌, ◌-◌}
-use native.Mathlib.Omega.{arith}
-use mathlib.Core.Path.{◌≡◌, refl, sym, ◌∙◌}
-use mathlib.Core.List.{[]}
+use mathlib.Core.Path.{◌≡◌}
 use lib.ListN.{length, take}
-use lib.Seq.{take_all}
-use borrow.Author.Rules.{rules}
 use Rattle.bits.specs.Bits.{spelled, laid}
-use Rattle.bits.proofs.Stores.{place_low, place_next, laid_again, put_next}
 use Rattle.bits.proofs.put_all.Given as goal
 
 abbrev pub invariant-loop-i : goal.invariant-loop-i

@@ -6,7 +6,6 @@ use Rattle.numbers.proofs.Laws.{lines_end}
 use Rattle.pins.specs.Pins.{bit_of, driven, levels}
 use Rattle.calls.specs.Calls.{interrupt_number, drive_call}
 use Rattle.calls.proofs.Laws.{unsound_first, sound_then, drive_done, drive_declined}
-use borrow.Author.Rules.{rules}
 use Rattle.calls.proofs.drive.Goals as goal
 
 pub returns-then-not-is_sound : goal.returns-then-not-is_sound

@@ -8,7 +8,6 @@ use borrow.Author.Tests.{not-true, not-false}
 use Rattle.judge.proofs.Laws.{key_there}
 use Rattle.calls.specs.Calls.{held_lines, held_number, held_call}
 use Rattle.calls.proofs.Laws.{unsound_first, sound_then, answer_done, answer_declined}
-use borrow.Author.Rules.{rules}
 use Rattle.calls.proofs.held.Goals as goal
 
 pub returns-then-not-is_sound : goal.returns-then-not-is_sound

@@ -5,7 +5,6 @@ use borrow.Author.Tests.{not-true, not-false}
 use Rattle.numbers.proofs.Laws.{lines_end}
 use Rattle.calls.specs.Calls.{interrupt_number, interrupt_call}
 use Rattle.calls.proofs.Laws.{unsound_first, sound_then, answer_done, answer_declined}
-use borrow.Author.Rules.{rules}
 use Rattle.calls.proofs.interrupt.Goals as goal
 
 pub returns-then-not-is_sound : goal.returns-then-not-is_sound

@@ -7,7 +7,6 @@ use Rattle.sound.proofs.Laws.{sound_facts, sound_out}
 use Rattle.judge.proofs.Laws.{eight_samples}
 use Rattle.calls.specs.Calls.{look_lines, look_number, look_call}
 use Rattle.calls.proofs.Laws.{unsound_first, sound_then, outcome_done, outcome_declined}
-use borrow.Author.Rules.{rules}
 use Rattle.calls.proofs.look.Goals as goal
 
 pub returns-then-not-is_sound : goal.returns-then-not-is_sound

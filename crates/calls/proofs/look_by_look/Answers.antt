@@ -1,4 +1,4 @@
-use Prim.Native.Nat.{◌+◌, ◌-◌, ◌/◌, ◌^◌, ◌≤◌, ◌<◌}
+use Prim.Native.Nat.{◌/◌}
 use native.Mathlib.Omega.{arith}
 use mathlib.Core.Path.{sym, ap, ◌∙◌}
 use lib.ListN.{length}
@@ -7,7 +7,7 @@ use Rattle.judge.proofs.Laws.{eight_samples}
 use Rattle.scan.specs.Walk.{altered}
 use Rattle.calls.specs.Walk.{MadeOn}
 use Rattle.calls.proofs.Kept.{still}
-use Rattle.calls.proofs.Blocks.{ended, eight, Walked, walked_none, walked_next, walked_stop, walked_all}
+use Rattle.calls.proofs.Blocks.{ended, eight, walked_none, walked_next, walked_stop, walked_all}
 use borrow.Author.Rules.{rules}
 use Rattle.calls.proofs.look_by_look.Goals as goal
 

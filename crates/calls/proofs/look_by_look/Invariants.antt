@@ -1,15 +1,8 @@
 -- `calls::look_by_look` meets its contract. The loop's invariant: the looks that are left give, of the parts as they are, what all of them give.
-use Prim.Native.Nat.{◌+◌, ◌-◌, ◌/◌, ◌^◌, ◌≤◌, ◌<◌}
-use native.Mathlib.Omega.{arith}
-use mathlib.Core.Path.{sym, ap, ◌∙◌}
-use lib.ListN.{length}
+use Prim.Native.Nat.{◌+◌, ◌-◌, ◌^◌, ◌≤◌, ◌<◌}
 use Rattle.state.specs.Module.{queue, sleep}
-use Rattle.judge.proofs.Laws.{eight_samples}
 use Rattle.scan.specs.Walk.{altered}
-use Rattle.calls.specs.Walk.{MadeOn}
-use Rattle.calls.proofs.Kept.{still}
-use Rattle.calls.proofs.Blocks.{ended, eight, Walked, walked_none, walked_next, walked_stop, walked_all}
-use borrow.Author.Rules.{rules}
+use Rattle.calls.proofs.Blocks.{Walked}
 use Rattle.calls.proofs.look_by_look.Given as goal
 
 abbrev pub invariant-loop-done : goal.invariant-loop-done

@@ -7,7 +7,6 @@ use Rattle.numbers.proofs.Laws.{line_yes, line_no, lines_end}
 use Rattle.calls.specs.Blocks.{block_lines}
 use Rattle.calls.proofs.Laws.{unsound_first, sound_then}
 use Rattle.calls.proofs.Blocks.{looks_declined, looks_done}
-use borrow.Author.Rules.{rules}
 use Rattle.calls.proofs.looks.Goals as goal
 
 pub returns-then-not-is_sound : goal.returns-then-not-is_sound

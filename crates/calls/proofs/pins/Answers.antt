@@ -6,7 +6,6 @@ use Rattle.pins.specs.declared.Pins.{Pins}
 use Rattle.state.specs.Module.{with_pins}
 use Rattle.calls.specs.Calls.{pins_number, sampling, pins_call}
 use Rattle.calls.proofs.Laws.{unsound_first, sound_then, outcome_done, outcome_declined}
-use borrow.Author.Rules.{rules}
 use Rattle.calls.proofs.pins.Goals as goal
 
 pub returns-then-not-is_sound : goal.returns-then-not-is_sound

@@ -6,7 +6,6 @@ use lib.ListN.{length}
 use Rattle.judge.proofs.Laws.{read_allowed}
 use Rattle.calls.specs.Calls.{read_number, read_call}
 use Rattle.calls.proofs.Laws.{unsound_access, asleep_first, awake_then, accessed_done, accessed_asleep, accessed_declined, buffer_done, buffer_declined, woke, read_awake}
-use borrow.Author.Rules.{rules}
 use Rattle.calls.proofs.read.Goals as goal
 
 pub returns-then-not-is_sound : goal.returns-then-not-is_sound

@@ -1,6 +1,5 @@
 -- `calls::reset` meets its contract: the fresh state.
 use Rattle.calls.specs.Calls.{reset_call}
-use borrow.Author.Rules.{rules}
 use Rattle.calls.proofs.reset.Goals as goal
 
 pub returns : goal.returns

@@ -4,7 +4,6 @@ use mathlib.Core.Path.{sym, ◌∙◌}
 use borrow.Author.Tests.{not-true, not-false}
 use Rattle.calls.specs.Calls.{write_number, write_call}
 use Rattle.calls.proofs.Laws.{unsound_access, asleep_first, awake_then, accessed_done, accessed_asleep, accessed_declined, woke, write_awake}
-use borrow.Author.Rules.{rules}
 use Rattle.calls.proofs.write.Goals as goal
 
 pub returns-then-not-is_sound : goal.returns-then-not-is_sound

@@ -1,10 +1,8 @@
-use Prim.Native.Nat.{◌+◌, ◌-◌, ◌≤◌}
 use native.Mathlib.Omega.{arith}
-use mathlib.Core.Path.{◌≡◌, sym, ◌∙◌}
-use lib.ListN.{length, drop}
+use mathlib.Core.Path.{sym, ◌∙◌}
 use borrow.Author.Rules.{rules}
 use borrow.Author.Tests.{not-true, not-false}
-use Rattle.codes.specs.Codes.{none_down, agreeing}
+use Rattle.codes.specs.Codes.{none_down}
 use Rattle.codes.proofs.Laws.{agreeing_end, agreeing_stop, agreeing_go}
 use Rattle.codes.proofs.agreeing.Goals as goal
 

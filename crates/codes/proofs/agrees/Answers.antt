@@ -1,7 +1,6 @@
 -- `codes::agrees` meets its contract: what is no code is told first, so the key that the code speaks of has a place in the table.
 use Prim.Native.Nat.{ℕ, ◌<◌}
 use mathlib.Core.Path.{sym, subst, ◌∙◌}
-use borrow.Author.Rules.{rules}
 use borrow.Author.Tests.{not-true, not-false}
 use Rattle.keys.specs.Replay.{is_press}
 use Rattle.codes.proofs.Laws.{code_key_low, agrees_no, agrees_yes}

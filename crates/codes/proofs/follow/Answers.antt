@@ -1,7 +1,6 @@
 -- `codes::follow` meets its contract: a code of no key speaks of a place past the table's end, where nothing is written.
 use native.Mathlib.Omega.{arith}
 use mathlib.Core.Path.{sym}
-use borrow.Author.Rules.{rules}
 use Rattle.keys.specs.Replay.{is_press}
 use Rattle.codes.specs.Codes.{after}
 use Rattle.codes.proofs.Laws.{after_out}

@@ -1,11 +1,8 @@
-use Prim.Native.Nat.{◌+◌, ◌-◌, ◌≤◌}
 use native.Mathlib.Omega.{arith}
-use mathlib.Core.Path.{◌≡◌, sym, ◌∙◌}
-use lib.ListN.{length, drop}
+use mathlib.Core.Path.{sym, ◌∙◌}
 use borrow.Author.Rules.{rules}
 use borrow.Author.Tests.{not-true, not-false}
 use Rattle.keys.specs.Keys.{is_code}
-use Rattle.codes.specs.Codes.{leading}
 use Rattle.codes.proofs.Laws.{leading_end, leading_stop, leading_go}
 use Rattle.codes.proofs.good.Goals as goal
 

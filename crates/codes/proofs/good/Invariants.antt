@@ -1,13 +1,9 @@
 -- `codes::good` meets its contract. The loop's invariant: as many codes lead as were passed, and as lead from place i on.
 use Prim.Native.Nat.{◌+◌, ◌-◌, ◌≤◌}
-use native.Mathlib.Omega.{arith}
-use mathlib.Core.Path.{◌≡◌, sym, ◌∙◌}
+use mathlib.Core.Path.{◌≡◌}
 use lib.ListN.{length, drop}
-use borrow.Author.Rules.{rules}
-use borrow.Author.Tests.{not-true, not-false}
 use Rattle.keys.specs.Keys.{is_code}
 use Rattle.codes.specs.Codes.{leading}
-use Rattle.codes.proofs.Laws.{leading_end, leading_stop, leading_go}
 use Rattle.codes.proofs.good.Given as goal
 
 abbrev pub invariant-loop-i : goal.invariant-loop-i

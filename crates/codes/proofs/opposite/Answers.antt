@@ -1,6 +1,5 @@
 -- `codes::opposite` meets its contract: press codes are those below 128.
 use mathlib.Core.Path.{sym}
-use borrow.Author.Rules.{rules}
 use borrow.Author.Tests.{lt-ltb, le-ltb}
 use Rattle.keys.specs.Replay.{is_press}
 use Rattle.codes.proofs.Laws.{opposite_press, opposite_release}

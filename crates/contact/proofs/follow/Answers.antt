@@ -1,6 +1,5 @@
 -- `contact::follow` meets its contract: an arm for what the look shows.
 use mathlib.Core.Path.{sym, ap, ◌∙◌}
-use borrow.Author.Rules.{rules}
 use Rattle.contact.specs.declared.Sight.{Sight}
 use Rattle.contact.specs.Contact.{moved, stepped}
 use Rattle.contact.proofs.follow.Goals as goal

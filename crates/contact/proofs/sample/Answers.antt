@@ -1,6 +1,5 @@
 -- `contact::sample` meets its contract: each return rewrites with the tests that led there.
 use native.Mathlib.Omega.{arith}
-use borrow.Author.Rules.{rules}
 use Rattle.contact.specs.Contact.{opposite, moved, sampled}
 use Rattle.contact.proofs.Laws.{other, reached, ahead}
 use Rattle.contact.proofs.sample.Goals as goal

@@ -1,6 +1,4 @@
 -- `contact::step` meets its contract: the run tells whether the contact is settling.
-use mathlib.Core.Path.{◌∙◌}
-use borrow.Author.Rules.{rules}
 use Rattle.contact.proofs.Laws.{told_by_moved}
 use Rattle.contact.proofs.step.Goals as goal
 

@@ -1,7 +1,6 @@
 -- `flags::cleared` meets its contract: each return by the bit.
 use borrow.Author.Tests.{eq-eqb, ne_eqb}
 use Rattle.words.specs.Words.{bit, without}
-use borrow.Author.Rules.{rules}
 use Rattle.flags.proofs.cleared.Goals as goal
 
 pub returns-then-byte-bit-eq1 : goal.returns-then-byte-bit-eq1

@@ -4,7 +4,6 @@ use mathlib.Core.Bool.{not}
 use borrow.Author.Tests.{ne_eqb, eq-eqb}
 use Rattle.flags.specs.Flags.{mis}
 use Rattle.flags.proofs.Laws.{line_porirq, line_mis, line_pins}
-use borrow.Author.Rules.{rules}
 use Rattle.flags.proofs.line.Goals as goal
 
 pub returns-then-porirq : goal.returns-then-porirq

@@ -2,7 +2,6 @@
 use mathlib.Core.Path.{◌∙◌}
 use Rattle.state.specs.Queue.{waits}
 use Rattle.flags.proofs.Laws.{four}
-use borrow.Author.Rules.{rules}
 use Rattle.flags.proofs.mis.Goals as goal
 
 pub returns : goal.returns

@@ -1,6 +1,5 @@
 -- `flags::ris` meets its contract, by what `byte` ensures.
 use Rattle.state.specs.Queue.{waits}
-use borrow.Author.Rules.{rules}
 use Rattle.flags.proofs.ris.Goals as goal
 
 pub returns : goal.returns

@@ -1,7 +1,6 @@
 -- `groups::panel_group_value` meets its contract: what stands at the place, in words.
 use mathlib.Core.Path.{ap, ◌∙◌}
 use Rattle.groups.specs.Told.{of_stand}
-use borrow.Author.Rules.{rules}
 use Rattle.groups.proofs.panel_group_value.Goals as goal
 
 pub returns : goal.returns

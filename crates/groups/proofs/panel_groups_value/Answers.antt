@@ -1,7 +1,6 @@
 -- `groups::panel_groups_value` meets its contract: it hands on what the walk has handed out, as three words.
 use mathlib.Core.Path.{ap}
 use Rattle.groups.specs.Told.{of_walked}
-use borrow.Author.Rules.{rules}
 use Rattle.groups.proofs.panel_groups_value.Goals as goal
 
 pub returns : goal.returns

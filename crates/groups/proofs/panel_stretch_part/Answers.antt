@@ -2,7 +2,6 @@
 use mathlib.Core.Path.{ap, ◌∙◌}
 use Rattle.groups.specs.Told.{part_of}
 use Rattle.groups.proofs.Laws.{part_within}
-use borrow.Author.Rules.{rules}
 use Rattle.groups.proofs.panel_stretch_part.Goals as goal
 
 pub part_of-requires : goal.part_of-requires

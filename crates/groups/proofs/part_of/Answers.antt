@@ -4,7 +4,6 @@ use Prim.Native.Nat.{◌≤◌}
 use Rattle.undo.specs.declared.Stand.{Stand}
 use Rattle.undo.specs.Stands.{values_of, first_in, end_in}
 use Rattle.groups.specs.Told.{part_of}
-use borrow.Author.Rules.{rules}
 use Rattle.groups.proofs.part_of.Goals as goal
 
 pub overflow_sub-result : goal.overflow_sub-result

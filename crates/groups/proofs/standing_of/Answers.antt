@@ -2,7 +2,6 @@
 use mathlib.Core.Path.{sym, ap}
 use Rattle.undo.specs.Stands.{values_of}
 use Rattle.groups.specs.Told.{kind_of, of_stand}
-use borrow.Author.Rules.{rules}
 use Rattle.groups.proofs.standing_of.Goals as goal
 
 pub returns-in-Group : goal.returns-in-Group

@@ -1,9 +1,6 @@
-use Prim.Native.Nat.{◌≤◌, ◌-◌}
-use mathlib.Core.Path.{◌≡◌, refl, sym, ◌∙◌}
-use lib.ListN.{length, drop}
+use mathlib.Core.Path.{refl, sym, ◌∙◌}
 use borrow.Author.Rules.{rules}
 use borrow.Author.Tests.{not-true, not-false}
-use Rattle.judge.specs.Lines.{sizes_fit}
 use Rattle.judge.proofs.Laws.{sizes_end, sizes_no, sizes_yes}
 use Rattle.judge.proofs.are_fit.Goals as goal
 

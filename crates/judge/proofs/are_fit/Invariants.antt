@@ -1,11 +1,8 @@
 -- `judge::are_fit` meets its contract. The loop's invariant: all bytes fit exactly when those left do.
 use Prim.Native.Nat.{◌≤◌, ◌-◌}
-use mathlib.Core.Path.{◌≡◌, refl, sym, ◌∙◌}
+use mathlib.Core.Path.{◌≡◌}
 use lib.ListN.{length, drop}
-use borrow.Author.Rules.{rules}
-use borrow.Author.Tests.{not-true, not-false}
 use Rattle.judge.specs.Lines.{sizes_fit}
-use Rattle.judge.proofs.Laws.{sizes_end, sizes_no, sizes_yes}
 use Rattle.judge.proofs.are_fit.Given as goal
 
 abbrev pub invariant-loop-i : goal.invariant-loop-i

@@ -1,14 +1,10 @@
 -- `judge::are_narrow` meets its contract. The loop's invariant: all samples are narrow exactly when those left are.
 use Prim.Native.Nat.{◌≤◌, ◌-◌}
-use native.Mathlib.Omega.{arith}
-use mathlib.Core.Path.{◌≡◌, refl, sym, ◌∙◌}
+use mathlib.Core.Path.{◌≡◌}
 use mathlib.Core.Bool.{not}
 use lib.ListN.{length, drop}
-use borrow.Author.Rules.{rules}
 use Rattle.words.specs.Words.{all}
-use Rattle.words.proofs.Laws.{all_end, all_at_no, all_at_yes}
 use Rattle.judge.specs.Lines.{high}
-use Rattle.judge.proofs.Laws.{high_yes, high_no}
 use Rattle.judge.proofs.are_narrow.Given as goal
 
 abbrev pub invariant-loop-i : goal.invariant-loop-i

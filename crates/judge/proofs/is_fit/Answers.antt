@@ -1,7 +1,6 @@
 -- `judge::is_fit` meets its contract: a byte for KBDSIZE is asked, and one for another register is not.
 use mathlib.Core.Path.{sym, ◌∙◌}
 use Rattle.judge.proofs.Laws.{fits_size, fits_other}
-use borrow.Author.Rules.{rules}
 use Rattle.judge.proofs.is_fit.Goals as goal
 
 pub returns-in-KBDSIZE : goal.returns-in-KBDSIZE

@@ -5,7 +5,6 @@ use mathlib.Core.Bool.{not}
 use borrow.Author.Tests.{eq-eqb, ne_eqb, lt-ltb, le-ltb}
 use Rattle.numbers.proofs.Laws.{line_yes, line_no, lines_end}
 use Rattle.judge.specs.Lines.{access_lines}
-use borrow.Author.Rules.{rules}
 use Rattle.judge.proofs.of_access.Goals as goal
 
 pub returns-then-count-lt1 : goal.returns-then-count-lt1

@@ -3,7 +3,6 @@ use mathlib.Core.Path.{sym, ◌∙◌, ap}
 use mathlib.Core.Bool.{not}
 use Rattle.numbers.proofs.Laws.{line_yes, line_no, lines_end}
 use Rattle.judge.specs.Lines.{key_lines}
-use borrow.Author.Rules.{rules}
 use Rattle.judge.proofs.of_key.Goals as goal
 
 pub returns-then-not-is_key : goal.returns-then-not-is_key

@@ -1,6 +1,5 @@
 -- `judge::of_read` meets its contract: an access that reads.
 use Rattle.judge.specs.Lines.{read_lines}
-use borrow.Author.Rules.{rules}
 use Rattle.judge.proofs.of_read.Goals as goal
 
 pub returns : goal.returns

@@ -4,7 +4,6 @@ use mathlib.Core.Bool.{not}
 use borrow.Author.Tests.{eq-eqb, ne_eqb}
 use Rattle.numbers.proofs.Laws.{line_yes, line_no, lines_end}
 use Rattle.judge.specs.Lines.{sample_lines}
-use borrow.Author.Rules.{rules}
 use Rattle.judge.proofs.of_samples.Goals as goal
 
 pub returns-then-samples-ne8 : goal.returns-then-samples-ne8

@@ -3,7 +3,6 @@ use mathlib.Core.Path.{sym, ◌∙◌, ap}
 use mathlib.Core.Bool.{not}
 use Rattle.numbers.proofs.Laws.{line_yes, line_no, lines_end}
 use Rattle.judge.proofs.Laws.{write_access, write_rest}
-use borrow.Author.Rules.{rules}
 use Rattle.judge.proofs.of_write.Goals as goal
 
 pub returns-then-number-ne-DONE : goal.returns-then-number-ne-DONE

@@ -1,6 +1,5 @@
 -- `keys::change_code` meets its contract: by the key's row and column.
 use Rattle.keys.specs.Keys.{code}
-use borrow.Author.Rules.{rules}
 use Rattle.keys.proofs.change_code.Goals as goal
 
 pub returns : goal.returns

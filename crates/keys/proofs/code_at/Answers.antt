@@ -1,5 +1,4 @@
 -- `keys::code_at` meets its contract: by what the contact did.
-use borrow.Author.Rules.{rules}
 use Rattle.keys.proofs.code_at.Goals as goal
 
 pub returns-then-closed : goal.returns-then-closed

@@ -1,7 +1,6 @@
 -- `keys::col_of` meets its contract.
 use mathlib.Core.Path.{sym}
 use Rattle.keys.proofs.Laws.{col_yes, col_no}
-use borrow.Author.Rules.{rules}
 use Rattle.keys.proofs.col_of.Goals as goal
 
 pub returns-then-key-ge-NO_KEY : goal.returns-then-key-ge-NO_KEY

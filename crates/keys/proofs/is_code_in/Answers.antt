@@ -1,7 +1,6 @@
 -- `keys::is_code_in` meets its contract, by the law of codes.
 use mathlib.Core.Path.{◌∙◌}
 use Rattle.keys.proofs.Laws.{code_in}
-use borrow.Author.Rules.{rules}
 use Rattle.keys.proofs.is_code_in.Goals as goal
 
 pub returns : goal.returns

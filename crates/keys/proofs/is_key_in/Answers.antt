@@ -1,6 +1,5 @@
 -- `keys::is_key_in` meets its contract: the key's row and column are in the size.
 use Rattle.keys.specs.Keys.{key_in}
-use borrow.Author.Rules.{rules}
 use Rattle.keys.proofs.is_key_in.Goals as goal
 
 pub returns : goal.returns

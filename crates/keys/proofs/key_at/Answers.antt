@@ -2,7 +2,6 @@
 use mathlib.Core.Path.{sym, ◌∙◌}
 use borrow.Author.Tests.{not-true, not-false}
 use Rattle.keys.specs.Keys.{key_at}
-use borrow.Author.Rules.{rules}
 use Rattle.keys.proofs.key_at.Goals as goal
 
 pub returns-then-not-is_key : goal.returns-then-not-is_key

@@ -1,6 +1,5 @@
 -- `keys::key_of` meets its contract.
 use Rattle.keys.specs.Keys.{key_of}
-use borrow.Author.Rules.{rules}
 use Rattle.keys.proofs.key_of.Goals as goal
 
 pub returns : goal.returns

@@ -4,7 +4,6 @@ use mathlib.Core.Path.{sym, ◌∙◌}
 use borrow.Author.Tests.{not-true, not-false}
 use Rattle.keys.specs.Keys.{press_code}
 use Rattle.keys.proofs.Laws.{key_row, key_col}
-use borrow.Author.Rules.{rules}
 use Rattle.keys.proofs.press_code.Goals as goal
 
 pub returns-then-not-is_key : goal.returns-then-not-is_key

@@ -3,7 +3,6 @@ use native.Mathlib.Omega.{arith}
 use mathlib.Core.Path.{sym, ◌∙◌}
 use Rattle.keys.specs.Keys.{press_code, release_code}
 use Rattle.keys.proofs.Laws.{press_no, press_yes, press_low}
-use borrow.Author.Rules.{rules}
 use Rattle.keys.proofs.release_code.Goals as goal
 
 pub returns-then-press-eq-NO_CODE : goal.returns-then-press-eq-NO_CODE

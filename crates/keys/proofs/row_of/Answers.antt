@@ -1,7 +1,6 @@
 -- `keys::row_of` meets its contract.
 use mathlib.Core.Path.{sym}
 use Rattle.keys.proofs.Laws.{row_yes, row_no}
-use borrow.Author.Rules.{rules}
 use Rattle.keys.proofs.row_of.Goals as goal
 
 pub returns-then-key-ge-NO_KEY : goal.returns-then-key-ge-NO_KEY

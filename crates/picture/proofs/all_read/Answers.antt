@@ -2,7 +2,6 @@
 use mathlib.Core.Path.{sym}
 use borrow.Author.Tests.{not-true, not-false}
 use Rattle.picture.proofs.Laws.{read_first, read_second, read_third, read_last}
-use borrow.Author.Rules.{rules}
 use Rattle.picture.proofs.all_read.Goals as goal
 
 pub returns-then-not-seen : goal.returns-then-not-seen

@@ -1,7 +1,4 @@
 -- `picture::but_first` meets its contract: the lowest bit that is 1 is there, and its weight goes.
-use Prim.Native.Nat.{◌<◌}
-use mathlib.Core.Path.{◌≡◌, refl, sym, ap}
-use native.Mathlib.Omega.{arith}
 use borrow.Author.Rules.{rules}
 use Rattle.words.proofs.Bits.{one_shifted}
 use Rattle.picture.specs.Masks.{first_of, but_first}

@@ -1,10 +1,9 @@
 -- `picture::first_code` meets its contract: another key is in the row, or the rows behind it are looked at.
-use mathlib.Core.Path.{◌≡◌, sym, ap, ◌∙◌}
+use mathlib.Core.Path.{sym, ap, ◌∙◌}
 use Prim.Native.Nat.{ℕ, ◌+◌, ◌*◌}
-use native.Mathlib.Omega.{arith}
 use borrow.Author.Rules.{rules}
 use Rattle.picture.specs.Picture.{more}
-use Rattle.picture.specs.Masks.{first_of, but_first, codes_from}
+use Rattle.picture.specs.Masks.{first_of, codes_from}
 use Rattle.picture.proofs.Rows.{first_place, more_in, row_passed}
 use Rattle.picture.proofs.first_code.Goals as goal
 

@@ -3,7 +3,6 @@ use mathlib.Core.Path.{sym, ap, ◌∙◌}
 use Rattle.state.specs.Module.{forgotten, with_rsint, with_seen}
 use Rattle.picture.specs.Picture.{all_read}
 use Rattle.picture.proofs.Laws.{marked_all, marked_some}
-use borrow.Author.Rules.{rules}
 use Rattle.picture.proofs.mark.Goals as goal
 
 pub returns-then-all_read : goal.returns-then-all_read

@@ -1,11 +1,7 @@
 -- `picture::mask_of_row` meets its contract. The loop's invariant: the mask is that of the row's keys from the column on.
-use mathlib.Core.Path.{◌≡◌, sym, ap, ◌∙◌}
-use mathlib.Core.Bool.{false}
-use Prim.Native.Nat.{◌+◌, ◌-◌, ◌*◌, ◌≤◌}
-use native.Mathlib.Omega.{arith}
-use lib.ListN.{get_or}
-use borrow.Author.Rules.{rules}
-use Rattle.picture.proofs.Rows.{digit_low, mask_from, row_left, row_whole, row_below, row_next}
+use mathlib.Core.Path.{◌≡◌}
+use Prim.Native.Nat.{◌≤◌}
+use Rattle.picture.proofs.Rows.{mask_from}
 use Rattle.picture.proofs.mask_of_row.Given as goal
 
 abbrev pub invariant-loop-col : goal.invariant-loop-col

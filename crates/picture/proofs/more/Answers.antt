@@ -1,9 +1,5 @@
-use mathlib.Core.Path.{◌≡◌, refl, sym, ◌∙◌}
-use Prim.Native.Nat.{◌-◌}
-use lib.ListN.{length, drop}
+use mathlib.Core.Path.{refl, sym, ◌∙◌}
 use borrow.Author.Rules.{rules}
-use Rattle.picture.specs.Picture.{more}
-use Rattle.picture.specs.Masks.{by_masks}
 use Rattle.picture.proofs.Rows.{more_here, more_later, more_end}
 use Rattle.picture.proofs.more.Goals as goal
 

@@ -1,11 +1,9 @@
 -- `picture::more` meets its contract. The loop's invariant: whether a key of the rows from the first on is held is whether one is from this row on.
-use mathlib.Core.Path.{◌≡◌, refl, sym, ◌∙◌}
+use mathlib.Core.Path.{◌≡◌}
 use Prim.Native.Nat.{◌-◌}
 use lib.ListN.{length, drop}
-use borrow.Author.Rules.{rules}
 use Rattle.picture.specs.Picture.{more}
 use Rattle.picture.specs.Masks.{by_masks}
-use Rattle.picture.proofs.Rows.{more_here, more_later, more_end}
 use Rattle.picture.proofs.more.Given as goal
 
 abbrev pub invariant-loop-row : goal.invariant-loop-row

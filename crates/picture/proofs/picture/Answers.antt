@@ -1,6 +1,5 @@
 -- `picture::picture` meets its contract: the rows' masks give the held keys' codes in order.
 use mathlib.Core.Path.{ap, ◌∙◌}
-use borrow.Author.Rules.{rules}
 use Rattle.picture.specs.Picture.{nth, picture}
 use Rattle.picture.proofs.picture.Goals as goal
 

@@ -1,9 +1,8 @@
-use mathlib.Core.Path.{◌≡◌, sym, ap, ◌∙◌}
-use Prim.Native.Nat.{◌+◌, ◌-◌, ◌*◌, ◌≤◌, ◌<◌}
-use native.Mathlib.Omega.{arith}
+use mathlib.Core.Path.{sym, ap, ◌∙◌}
+use Prim.Native.Nat.{◌+◌, ◌-◌}
 use borrow.Author.Rules.{rules}
 use Rattle.picture.specs.Picture.{nth}
-use Rattle.picture.specs.Masks.{by_masks, codes_from}
+use Rattle.picture.specs.Masks.{codes_from}
 use Rattle.picture.proofs.Rows.{shown_from, shown_row, shown_here, shown_later, shown_end, mask_room}
 use Rattle.picture.proofs.shown_of.Goals as goal
 

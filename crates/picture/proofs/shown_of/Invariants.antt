@@ -1,11 +1,8 @@
 -- `picture::shown_of` meets its contract. The loop's invariant: register n shows of all rows what register `rest` would of the keys left from this row on.
-use mathlib.Core.Path.{◌≡◌, sym, ap, ◌∙◌}
+use mathlib.Core.Path.{◌≡◌}
 use Prim.Native.Nat.{◌+◌, ◌-◌, ◌*◌, ◌≤◌, ◌<◌}
-use native.Mathlib.Omega.{arith}
-use borrow.Author.Rules.{rules}
 use Rattle.picture.specs.Picture.{nth}
 use Rattle.picture.specs.Masks.{by_masks, codes_from}
-use Rattle.picture.proofs.Rows.{shown_from, shown_row, shown_here, shown_later, shown_end, mask_room}
 use Rattle.picture.proofs.shown_of.Given as goal
 
 abbrev pub invariant-loop-row : goal.invariant-loop-row

@@ -1,6 +1,5 @@
 -- `pins::bank` meets its contract: the shift is the definition's division.
 use mathlib.Core.Path.{refl}
-use borrow.Author.Rules.{rules}
 use Rattle.words.specs.Words.{bit}
 use Rattle.pins.proofs.bank.Goals as goal
 

@@ -1,6 +1,5 @@
 -- `pins::bit_of` meets its contract: by what is asked.
 use mathlib.Core.Path.{sym, ap, ◌∙◌}
-use borrow.Author.Rules.{rules}
 use Rattle.pins.specs.declared.What.{What}
 use Rattle.pins.specs.Pins.{bit_of}
 use Rattle.pins.proofs.bit_of.Goals as goal

@@ -2,7 +2,6 @@
 use Prim.Native.Nat.{ℕ, ◌-◌, ◌*◌, ◌/◌, ◌%◌, ◌^◌}
 use mathlib.Core.Path.{sym, ap, ◌∙◌}
 use native.Mathlib.Omega.{arith}
-use borrow.Author.Rules.{rules}
 use Rattle.pins.specs.Rules.{byte_by}
 use Rattle.pins.specs.Pins.{kept_in, flag_in, bit_of}
 use Rattle.pins.proofs.Laws.{within_from, within_to, data_within, reads_data, reads_raw, reads_masked, reads_kept}

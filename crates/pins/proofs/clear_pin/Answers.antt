@@ -1,6 +1,5 @@
 -- `pins::clear_pin` meets its contract: by the address, and by the pin's bit.
 use Prim.Native.Nat.{◌/◌, ◌%◌, ◌^◌}
-use borrow.Author.Rules.{rules}
 use borrow.Author.Tests.{ne_eqb}
 use Rattle.words.specs.Words.{bit}
 use Rattle.pins.proofs.Laws.{clears_elsewhere, clears_here}

@@ -3,7 +3,6 @@ use Prim.Native.Nat.{ℕ, ◌*◌, ◌/◌, ◌%◌, ◌^◌}
 use mathlib.Core.Path.{ap, ◌∙◌}
 use mathlib.Core.List.{◌∷◌}
 use lib.ListN.{replicate}
-use borrow.Author.Rules.{rules}
 use Rattle.pins.specs.Rules.{byte_by}
 use Rattle.pins.specs.Pins.{bit_of, edges}
 use Rattle.pins.proofs.edges.Goals as goal

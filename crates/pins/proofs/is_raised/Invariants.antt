@@ -1,13 +1,10 @@
 -- `pins::is_raised` meets its contract. The loop's invariant: no pin so far has an enabled edge.
-use Prim.Native.Nat.{ℕ, ◌-◌, ◌≤◌}
-use mathlib.Core.Path.{◌≡◌, refl, sym, ap, ◌∙◌}
-use mathlib.Core.Bool.{Bool, true, not, ◌&&◌}
-use native.Mathlib.Omega.{arith}
-use borrow.Author.Rules.{rules}
+use Prim.Native.Nat.{◌-◌, ◌≤◌}
+use mathlib.Core.Path.{◌≡◌}
+use mathlib.Core.Bool.{true, not, ◌&&◌}
 use Rattle.words.specs.Words.{all_below}
-use Rattle.words.proofs.Laws.{below_next, below_fails}
 use Rattle.pins.specs.Rules.{IE}
-use Rattle.pins.specs.Pins.{kept_in, flag_in, raised}
+use Rattle.pins.specs.Pins.{kept_in, flag_in}
 use Rattle.pins.proofs.is_raised.Given as goal
 
 abbrev pub invariant-loop-pin : goal.invariant-loop-pin

@@ -2,7 +2,6 @@
 use Prim.Native.Nat.{ℕ, ◌<◌, ◌≤◌}
 use mathlib.Core.Path.{sym, ap, subst, ◌∙◌}
 use lib.ListN.{get_or}
-use borrow.Author.Rules.{rules}
 use Rattle.pins.proofs.Laws.{kept_at, kept_none}
 use Rattle.pins.proofs.kept_at.Goals as goal
 

@@ -1,6 +1,5 @@
 -- `pins::paired` meets its contract: the shift is the definition's division.
 use mathlib.Core.Path.{refl}
-use borrow.Author.Rules.{rules}
 use Rattle.words.specs.Words.{bit}
 use Rattle.pins.proofs.paired.Goals as goal
 

@@ -1,6 +1,5 @@
 -- `pins::sample_pin` meets its contract: each return by whether there was a sample before and the pin makes an edge.
 use mathlib.Core.Path.{refl, sym, ◌∙◌}
-use borrow.Author.Rules.{rules}
 use borrow.Author.Tests.{not-true, not-false}
 use Rattle.pins.proofs.sample_pin.Goals as goal
 

@@ -1,16 +1,9 @@
 -- `pins::sampled` meets its contract. The loop's invariant: the edges and levels of the pins so far are those of the definition, and the others are as they were.
-use Prim.Native.Nat.{ℕ, ◌-◌, ◌≤◌, ◌<◌}
-use mathlib.Core.Path.{◌≡◌, sym, ap, ◌∙◌}
-use mathlib.Core.Bool.{Bool, true, false, ◌&&◌}
-use mathlib.Core.List.{List}
-use native.Mathlib.Omega.{arith}
-use lib.ListN.{length, get_or, set}
-use borrow.Author.Rules.{rules}
-use Rattle.words.specs.Words.{◌if◌, ◌else◌, bit}
-use Rattle.words.proofs.Tables.{replaced, replaced_none, replaced_at, replaced_next, replaced_all}
-use Rattle.pins.specs.Rules as rule
+use Prim.Native.Nat.{◌-◌, ◌≤◌}
+use mathlib.Core.Path.{◌≡◌}
+use Rattle.words.specs.Words.{bit}
+use Rattle.words.proofs.Tables.{replaced}
 use Rattle.pins.specs.Pins as part
-use Rattle.pins.proofs.Laws.{sample_next}
 use Rattle.pins.proofs.sampled.Given as goal
 
 abbrev pub invariant-loop-pin : goal.invariant-loop-pin

@@ -4,7 +4,6 @@ use mathlib.Core.Path.{sym, ap, subst, ◌∙◌}
 use mathlib.Core.Bool.{Bool}
 use mathlib.Core.List.{List}
 use lib.ListN.{set}
-use borrow.Author.Rules.{rules}
 use Rattle.pins.specs.Pins.{pins}
 use Rattle.pins.proofs.Laws.{written_kept, written_clears}
 use Rattle.pins.proofs.written.Goals as goal

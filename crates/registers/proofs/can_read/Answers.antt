@@ -1,6 +1,5 @@
 -- `registers::can_read` meets its contract: by the register's own row, and by its address if it is one of the pins'.
 use mathlib.Core.Path.{◌∙◌, sym, ap}
-use borrow.Author.Rules.{rules}
 use Rattle.registers.specs.Registers.{can_read}
 use Rattle.registers.proofs.can_read.Goals as goal
 

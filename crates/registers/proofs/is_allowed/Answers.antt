@@ -2,7 +2,6 @@
 use mathlib.Core.Path.{◌∙◌, sym, ap}
 use Rattle.registers.specs.declared.Access.{Access}
 use Rattle.registers.specs.Registers.{allowed}
-use borrow.Author.Rules.{rules}
 use Rattle.registers.proofs.is_allowed.Goals as goal
 
 pub returns-in-Read : goal.returns-in-Read

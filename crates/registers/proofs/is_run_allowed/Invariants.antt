@@ -1,12 +1,6 @@
 -- `registers::is_run_allowed` meets its contract. The loop's invariant: the whole run is allowed exactly when what is left of it is.
-use mathlib.Core.Path.{◌≡◌, refl, sym, ap, ◌∙◌}
-use Prim.Native.Nat.{ℕ, ◌-◌}
-use native.Mathlib.Omega.{arith}
-use borrow.Author.Rules.{rules}
-use borrow.Author.Tests.{not-true, not-false}
-use Rattle.registers.specs.Registers.{allowed}
+use mathlib.Core.Path.{◌≡◌}
 use Rattle.registers.specs.Runs.{run_allowed}
-use Rattle.registers.proofs.Laws.{run_end, run_no, run_yes}
 use Rattle.registers.proofs.is_run_allowed.Given as goal
 
 abbrev pub invariant-loop-rest : goal.invariant-loop-rest

@@ -1,6 +1,5 @@
 -- `registers::is_run_in` meets its contract: by where the run begins and ends.
 use mathlib.Core.Path.{sym}
-use native.Mathlib.Omega.{arith}
 use borrow.Author.Rules.{rules}
 use Rattle.registers.proofs.Laws.{before_run, past_run, in_run}
 use Rattle.registers.proofs.is_run_in.Goals as goal

@@ -2,7 +2,6 @@
 use mathlib.Core.Path.{sym, ◌∙◌}
 use borrow.Author.Tests.{le-leb, lt-leb}
 use Rattle.registers.specs.Runs.{next}
-use borrow.Author.Rules.{rules}
 use Rattle.registers.proofs.next_address.Goals as goal
 
 pub returns-then-stays : goal.returns-then-stays

@@ -1,5 +1,4 @@
 -- `registers::pin_at` meets its contract: each return rewrites with the tests that led there.
-use borrow.Author.Rules.{rules}
 use Rattle.registers.proofs.pin_at.Goals as goal
 
 pub returns-then-pin_reads : goal.returns-then-pin_reads

@@ -1,5 +1,4 @@
 -- `registers::pin_reads` meets its contract: each return rewrites with the tests that led there.
-use borrow.Author.Rules.{rules}
 use borrow.Author.Tests.{eq-eqb, ne_eqb}
 use Rattle.registers.specs.Registers.{pin_reads}
 use Rattle.registers.proofs.pin_reads.Goals as goal

@@ -1,5 +1,4 @@
 -- `registers::pin_writes` meets its contract: each return rewrites with the tests that led there.
-use borrow.Author.Rules.{rules}
 use Rattle.registers.specs.Registers.{pin_writes}
 use Rattle.registers.proofs.pin_writes.Goals as goal
 

@@ -1,6 +1,5 @@
 -- `registers::register_at` meets its contract: below 0x91 the keypad's register, and from there on the pins'.
 use mathlib.Core.Path.{◌∙◌, sym}
-use borrow.Author.Rules.{rules}
 use Rattle.registers.proofs.Laws.{keypad_below, pin_from}
 use Rattle.registers.proofs.register_at.Goals as goal
 

@@ -1,7 +1,6 @@
 -- `scan::first_shown` meets its contract: by whether the special function contact is closed.
 use mathlib.Core.Path.{sym, ◌∙◌}
 use Rattle.scan.specs.Walk.{first_shown}
-use borrow.Author.Rules.{rules}
 use Rattle.scan.proofs.first_shown.Goals as goal
 
 pub returns-then-is_closed : goal.returns-then-is_closed

@@ -3,7 +3,6 @@ use mathlib.Core.Path.{sym, ◌∙◌}
 use borrow.Author.Tests.{not-true, not-false}
 use Rattle.words.specs.Words.{bit}
 use Rattle.scan.specs.Walk.{counted}
-use borrow.Author.Rules.{rules}
 use Rattle.scan.proofs.is_closed.Goals as goal
 
 pub returns-then-not-is_in_size : goal.returns-then-not-is_in_size

@@ -1,9 +1,7 @@
-use Prim.Native.Nat.{◌-◌, ◌≤◌}
 use native.Mathlib.Omega.{arith}
-use mathlib.Core.Path.{◌≡◌, refl}
-use mathlib.Core.Bool.{not}
+use mathlib.Core.Path.{refl}
 use borrow.Author.Rules.{rules}
-use Rattle.scan.proofs.Walk.{rest_below, runs_none, runs_next, runs_all}
+use Rattle.scan.proofs.Walk.{runs_none, runs_next, runs_all}
 use Rattle.scan.proofs.is_settling.Goals as goal
 
 pub loop-key-init : goal.loop-key-init

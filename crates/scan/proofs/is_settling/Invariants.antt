@@ -1,10 +1,8 @@
 -- `scan::is_settling` meets its contract. The loop's invariant: it is told whether one of the keys so far has a run.
 use Prim.Native.Nat.{◌-◌, ◌≤◌}
-use native.Mathlib.Omega.{arith}
-use mathlib.Core.Path.{◌≡◌, refl}
+use mathlib.Core.Path.{◌≡◌}
 use mathlib.Core.Bool.{not}
-use borrow.Author.Rules.{rules}
-use Rattle.scan.proofs.Walk.{rest_below, runs_none, runs_next, runs_all}
+use Rattle.scan.proofs.Walk.{rest_below}
 use Rattle.scan.proofs.is_settling.Given as goal
 
 abbrev pub invariant-loop-key : goal.invariant-loop-key

@@ -7,7 +7,6 @@ use Rattle.keys.proofs.Laws.{code_place}
 use Rattle.state.specs.Module.{queue}
 use Rattle.scan.specs.Walk.{parts}
 use Rattle.scan.proofs.Walk.{moved_key}
-use borrow.Author.Rules.{rules}
 use Rattle.scan.proofs.look_at.Goals as goal
 
 pub returns-then-changed : goal.returns-then-changed

@@ -1,8 +1,7 @@
-use Prim.Native.Nat.{◌≤◌, ◌-◌}
 use native.Mathlib.Omega.{arith}
-use mathlib.Core.Path.{◌≡◌, sym, ap, ◌∙◌}
+use mathlib.Core.Path.{sym, ap, ◌∙◌}
 use Rattle.state.specs.Module.{queue}
-use Rattle.scan.specs.Walk.{parts, first_shown, at_row}
+use Rattle.scan.specs.Walk.{parts, at_row}
 use Rattle.scan.proofs.Walk.{first_low, row_none, row_next}
 use borrow.Author.Rules.{rules}
 use Rattle.scan.proofs.look_at_row.Goals as goal

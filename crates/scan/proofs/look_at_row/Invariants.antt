@@ -1,11 +1,8 @@
 -- `scan::look_at_row` meets its contract. The loop's invariant: the columns below the next one are done, and from it on all are in sight.
 use Prim.Native.Nat.{◌≤◌, ◌-◌}
-use native.Mathlib.Omega.{arith}
-use mathlib.Core.Path.{◌≡◌, sym, ap, ◌∙◌}
+use mathlib.Core.Path.{◌≡◌}
 use Rattle.state.specs.Module.{queue}
 use Rattle.scan.specs.Walk.{parts, first_shown, at_row}
-use Rattle.scan.proofs.Walk.{first_low, row_none, row_next}
-use borrow.Author.Rules.{rules}
 use Rattle.scan.proofs.look_at_row.Given as goal
 
 abbrev pub invariant-loop-col : goal.invariant-loop-col

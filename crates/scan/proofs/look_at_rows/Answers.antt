@@ -1,6 +1,5 @@
-use Prim.Native.Nat.{◌/◌, ◌≤◌, ◌-◌}
 use native.Mathlib.Omega.{arith}
-use mathlib.Core.Path.{◌≡◌, ap, ◌∙◌}
+use mathlib.Core.Path.{ap, ◌∙◌}
 use Rattle.state.specs.Module.{queue}
 use Rattle.scan.specs.Walk.{parts, at_rows}
 use Rattle.scan.proofs.Walk.{rows_none, rows_next}

@@ -1,11 +1,8 @@
 -- `scan::look_at_rows` meets its contract. The loop's invariant: the rows below the next one are done.
 use Prim.Native.Nat.{◌/◌, ◌≤◌, ◌-◌}
-use native.Mathlib.Omega.{arith}
-use mathlib.Core.Path.{◌≡◌, ap, ◌∙◌}
+use mathlib.Core.Path.{◌≡◌}
 use Rattle.state.specs.Module.{queue}
 use Rattle.scan.specs.Walk.{parts, at_rows}
-use Rattle.scan.proofs.Walk.{rows_none, rows_next}
-use borrow.Author.Rules.{rules}
 use Rattle.scan.proofs.look_at_rows.Given as goal
 
 abbrev pub invariant-loop-row : goal.invariant-loop-row

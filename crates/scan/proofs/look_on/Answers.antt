@@ -6,7 +6,6 @@ use Rattle.state.specs.Sleep.{counted}
 use Rattle.scan.specs.Scan.{noticed}
 use Rattle.scan.specs.Walk.{parts, altered, whole, LookedOn}
 use Rattle.scan.proofs.Walk.{walked}
-use borrow.Author.Rules.{rules}
 use Rattle.scan.proofs.look_on.Goals as goal
 
 pub returns-then-any : goal.returns-then-any

@@ -1,6 +1,5 @@
 -- `scan::looked` meets its contract: the parts are taken out, and put back as the look leaves them.
 use Rattle.scan.specs.Walk.{LookedOn}
-use borrow.Author.Rules.{rules}
 use Rattle.scan.proofs.looked.Goals as goal
 
 pub returns : goal.returns

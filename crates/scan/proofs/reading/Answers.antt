@@ -1,7 +1,6 @@
 -- `scan::reading` meets its contract: by whether the contact is closed.
 use mathlib.Core.Path.{sym, ◌∙◌}
 use Rattle.contact.specs.Contact.{sight_of}
-use borrow.Author.Rules.{rules}
 use Rattle.scan.proofs.reading.Goals as goal
 
 pub returns-then-is_closed : goal.returns-then-is_closed

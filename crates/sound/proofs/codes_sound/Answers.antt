@@ -1,16 +1,9 @@
-use Prim.Native.Nat.{◌-◌}
 use native.Mathlib.Omega.{arith}
-use mathlib.Core.Path.{◌≡◌, refl, sym, ◌∙◌}
-use mathlib.Core.Bool.{false}
-use lib.ListN.{take, drop}
+use mathlib.Core.Path.{refl, sym, ◌∙◌}
 use borrow.Author.Tests.{not-true, not-false}
-use Rattle.words.specs.Words.{all}
-use Rattle.keys.specs.Keys.{key_in, key_of}
-use Rattle.state.specs.Module.{queue}
 use Rattle.state.specs.Queue.{waiting}
 use Rattle.sound.specs.Sound.{codes_sound}
 use Rattle.words.proofs.Laws.{front_no, front_yes, front_end}
-use borrow.Author.Rules.{rules}
 use Rattle.sound.proofs.codes_sound.Goals as goal
 
 pub loop-i-init : goal.loop-i-init

@@ -1,17 +1,12 @@
 -- `sound::codes_sound` meets its contract. The loop's invariant: it holds of all that wait exactly when it does from place i on.
 use Prim.Native.Nat.{◌-◌}
-use native.Mathlib.Omega.{arith}
-use mathlib.Core.Path.{◌≡◌, refl, sym, ◌∙◌}
+use mathlib.Core.Path.{◌≡◌}
 use mathlib.Core.Bool.{false}
 use lib.ListN.{take, drop}
-use borrow.Author.Tests.{not-true, not-false}
 use Rattle.words.specs.Words.{all}
 use Rattle.keys.specs.Keys.{key_in, key_of}
 use Rattle.state.specs.Module.{queue}
-use Rattle.state.specs.Queue.{waiting}
 use Rattle.sound.specs.Sound.{codes_sound}
-use Rattle.words.proofs.Laws.{front_no, front_yes, front_end}
-use borrow.Author.Rules.{rules}
 use Rattle.sound.proofs.codes_sound.Given as goal
 
 abbrev pub invariant-loop-i : goal.invariant-loop-i

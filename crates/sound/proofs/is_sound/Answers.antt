@@ -6,7 +6,6 @@ use borrow.Author.Tests.{le-leb, lt-leb, not-true, not-false}
 use Rattle.words.proofs.Laws.{every_no, every_yes, every_later, every_one}
 use Rattle.state.specs.Queue.{waiting}
 use Rattle.sound.specs.Sound.{sound, codes_sound, rest_unused}
-use borrow.Author.Rules.{rules}
 use Rattle.sound.proofs.is_sound.Goals as goal
 
 pub returns-then-not-is_acceptable : goal.returns-then-not-is_acceptable

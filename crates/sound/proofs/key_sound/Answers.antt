@@ -2,7 +2,6 @@
 use mathlib.Core.Path.{sym, ◌∙◌}
 use mathlib.Core.Bool.{and-true, and-false, or-true, or-false}
 use borrow.Author.Tests.{le-leb, lt-leb}
-use borrow.Author.Rules.{rules}
 use Rattle.sound.proofs.key_sound.Goals as goal
 
 pub returns-then-run-gt254 : goal.returns-then-run-gt254

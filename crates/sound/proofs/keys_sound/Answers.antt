@@ -1,11 +1,8 @@
-use Prim.Native.Nat.{◌*◌, ◌≤◌, ◌-◌}
 use native.Mathlib.Omega.{arith}
-use mathlib.Core.Path.{◌≡◌, refl, sym, ap, ◌∙◌}
-use mathlib.Core.Bool.{true, false}
-use lib.ListN.{get_or}
+use mathlib.Core.Path.{refl, sym, ap, ◌∙◌}
 use borrow.Author.Tests.{not-true, not-false}
 use Rattle.words.specs.Words.{all_below}
-use Rattle.sound.specs.Sound.{key_sound, keys_sound}
+use Rattle.sound.specs.Sound.{keys_sound}
 use Rattle.sound.proofs.Laws.{keys_yes, keys_no}
 use borrow.Author.Rules.{rules}
 use Rattle.sound.proofs.keys_sound.Goals as goal

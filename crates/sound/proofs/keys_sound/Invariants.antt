@@ -1,14 +1,10 @@
 -- `sound::keys_sound` meets its contract. The loop's invariant: the keys of the rows below are sound.
 use Prim.Native.Nat.{◌*◌, ◌≤◌, ◌-◌}
-use native.Mathlib.Omega.{arith}
-use mathlib.Core.Path.{◌≡◌, refl, sym, ap, ◌∙◌}
+use mathlib.Core.Path.{◌≡◌}
 use mathlib.Core.Bool.{true, false}
 use lib.ListN.{get_or}
-use borrow.Author.Tests.{not-true, not-false}
 use Rattle.words.specs.Words.{all_below}
-use Rattle.sound.specs.Sound.{key_sound, keys_sound}
-use Rattle.sound.proofs.Laws.{keys_yes, keys_no}
-use borrow.Author.Rules.{rules}
+use Rattle.sound.specs.Sound.{key_sound}
 use Rattle.sound.proofs.keys_sound.Given as goal
 
 abbrev pub invariant-loop-row : goal.invariant-loop-row

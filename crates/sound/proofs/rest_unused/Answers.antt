@@ -1,13 +1,6 @@
-use Prim.Native.Nat.{◌-◌}
 use native.Mathlib.Omega.{arith}
-use mathlib.Core.Path.{◌≡◌, refl, sym, ◌∙◌}
-use mathlib.Core.Bool.{false}
-use lib.ListN.{drop}
-use lib.Dec.{eqb}
-use borrow.Author.Rules.{rules}
+use mathlib.Core.Path.{refl, sym, ◌∙◌}
 use borrow.Author.Tests.{eq-eqb, ne_eqb}
-use Rattle.words.specs.Words.{all}
-use Rattle.state.specs.Module.{queue}
 use Rattle.sound.specs.Sound.{rest_unused}
 use Rattle.words.proofs.Laws.{all_at_no, all_at_yes, all_end}
 use Rattle.sound.proofs.rest_unused.Goals as goal

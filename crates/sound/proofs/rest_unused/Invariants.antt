@@ -1,16 +1,12 @@
 -- `sound::rest_unused` meets its contract. The loop's invariant: all places after the codes are unused exactly when those from place i on are.
 use Prim.Native.Nat.{◌-◌}
-use native.Mathlib.Omega.{arith}
-use mathlib.Core.Path.{◌≡◌, refl, sym, ◌∙◌}
+use mathlib.Core.Path.{◌≡◌}
 use mathlib.Core.Bool.{false}
 use lib.ListN.{drop}
 use lib.Dec.{eqb}
-use borrow.Author.Rules.{rules}
-use borrow.Author.Tests.{eq-eqb, ne_eqb}
 use Rattle.words.specs.Words.{all}
 use Rattle.state.specs.Module.{queue}
 use Rattle.sound.specs.Sound.{rest_unused}
-use Rattle.words.proofs.Laws.{all_at_no, all_at_yes, all_end}
 use Rattle.sound.proofs.rest_unused.Given as goal
 
 abbrev pub invariant-loop-i : goal.invariant-loop-i

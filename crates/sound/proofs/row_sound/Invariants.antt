@@ -1,13 +1,9 @@
 -- `sound::row_sound` meets its contract. The loop's invariant: the keys of the row below are sound.
 use Prim.Native.Nat.{◌≤◌, ◌-◌}
-use native.Mathlib.Omega.{arith}
-use mathlib.Core.Path.{◌≡◌, refl, sym, ap, ◌∙◌}
+use mathlib.Core.Path.{◌≡◌}
 use mathlib.Core.Bool.{true}
-use borrow.Author.Tests.{not-true, not-false}
 use Rattle.words.specs.Words.{all_below}
-use Rattle.words.proofs.Laws.{below_next, below_fails}
 use Rattle.sound.specs.Sound.{place_sound}
-use borrow.Author.Rules.{rules}
 use Rattle.sound.proofs.row_sound.Given as goal
 
 abbrev pub invariant-loop-col : goal.invariant-loop-col

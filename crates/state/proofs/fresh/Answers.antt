@@ -4,7 +4,6 @@ use mathlib.Core.Bool.{true, false}
 use lib.ListN.{replicate}
 use Rattle.pins.specs.declared.Pins.{Pins}
 use Rattle.state.specs.Module.{fresh, forgotten, keys, queue, settings, flags, sleep, made}
-use borrow.Author.Rules.{rules}
 use Rattle.state.proofs.fresh.Goals as goal
 
 pub returns : goal.returns

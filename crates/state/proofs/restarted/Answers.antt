@@ -2,7 +2,6 @@
 use mathlib.Core.Path.{ap}
 use Rattle.state.specs.declared.Module.{Module}
 use Rattle.state.specs.Module.{anew, restarted}
-use borrow.Author.Rules.{rules}
 use Rattle.state.proofs.restarted.Goals as goal
 
 pub returns : goal.returns

@@ -1,10 +1,7 @@
-use Prim.Native.Nat.{◌-◌, ◌<◌, ◌≤◌}
 use native.Mathlib.Omega.{arith}
-use mathlib.Core.Path.{◌≡◌, sym, ◌∙◌}
-use lib.ListN.{length, drop}
-use Rattle.undo.specs.Groups.{groups_of, ends_with_release}
-use Rattle.undo.proofs.Following.{open_at, open_begin, open_on, open_ends, open_end}
-use borrow.Author.Rules.{rules}
+use mathlib.Core.Path.{sym, ◌∙◌}
+use Rattle.undo.specs.Groups.{ends_with_release}
+use Rattle.undo.proofs.Following.{open_begin, open_on, open_ends, open_end}
 use Rattle.undo.proofs.group_from.Goals as goal
 
 pub loop-i-init : goal.loop-i-init

@@ -1,11 +1,9 @@
 -- `undo::group_from` meets its contract. The loop's invariant: the codes up to place i are a group that is open.
 use Prim.Native.Nat.{◌-◌, ◌<◌, ◌≤◌}
-use native.Mathlib.Omega.{arith}
-use mathlib.Core.Path.{◌≡◌, sym, ◌∙◌}
+use mathlib.Core.Path.{◌≡◌}
 use lib.ListN.{length, drop}
 use Rattle.undo.specs.Groups.{groups_of, ends_with_release}
-use Rattle.undo.proofs.Following.{open_at, open_begin, open_on, open_ends, open_end}
-use borrow.Author.Rules.{rules}
+use Rattle.undo.proofs.Following.{open_at}
 use Rattle.undo.proofs.group_from.Given as goal
 
 abbrev pub invariant-loop-i : goal.invariant-loop-i

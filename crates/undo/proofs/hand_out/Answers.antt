@@ -1,9 +1,7 @@
-use Prim.Native.Nat.{◌-◌, ◌≤◌}
 use native.Mathlib.Omega.{arith}
-use mathlib.Core.Path.{◌≡◌, ap, ◌∙◌}
+use mathlib.Core.Path.{ap, ◌∙◌}
 use lib.ListN.{length, length-set}
-use Rattle.undo.specs.Groups.{ends_with_release}
-use Rattle.undo.proofs.Following.{HandedOut, handed_none, handed_few, handed_on, handed_all, handed_ends, next_group, next_stops, groups_past, group_later, group_within}
+use Rattle.undo.proofs.Following.{handed_none, handed_few, handed_on, handed_all, handed_ends, next_group, next_stops, groups_past, group_later, group_within}
 use borrow.Author.Rules.{rules}
 use Rattle.undo.proofs.hand_out.Goals as goal
 

@@ -3,7 +3,6 @@ use native.Mathlib.Omega.{arith}
 use borrow.Author.Tests.{lt-ltb, le-ltb}
 use Rattle.keys.specs.Replay.{is_press}
 use Rattle.undo.specs.Stands.{is_trim}
-use borrow.Author.Rules.{rules}
 use Rattle.undo.proofs.is_trim.Goals as goal
 
 pub returns-then-trim-gt127 : goal.returns-then-trim-gt127

@@ -1,6 +1,5 @@
 -- `undo::next` meets its contract: the end, a code outside, or a group that the trim key opens.
 use Rattle.undo.proofs.Following.{next_none, next_alone}
-use borrow.Author.Rules.{rules}
 use Rattle.undo.proofs.next.Goals as goal
 
 pub returns-then-codes-at : goal.returns-then-codes-at

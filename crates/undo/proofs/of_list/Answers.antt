@@ -3,7 +3,6 @@ use native.Mathlib.Omega.{arith}
 use mathlib.Core.Path.{sym, ◌∙◌}
 use borrow.Author.Tests.{not-true, not-false}
 use Rattle.undo.proofs.Judged.{trim_no, code_no, change_no, list_yes}
-use borrow.Author.Rules.{rules}
 use Rattle.undo.proofs.of_list.Goals as goal
 
 pub returns-then-not-is_trim : goal.returns-then-not-is_trim

@@ -3,7 +3,6 @@ use mathlib.Core.Path.{sym, ◌∙◌}
 use borrow.Author.Tests.{lt-ltb, le-ltb}
 use Rattle.numbers.proofs.Laws.{line_yes, line_no}
 use Rattle.undo.specs.Places.{place_lines}
-use borrow.Author.Rules.{rules}
 use Rattle.undo.proofs.of_place.Goals as goal
 
 pub returns-then-codes-place : goal.returns-then-codes-place

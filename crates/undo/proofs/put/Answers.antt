@@ -1,7 +1,6 @@
 -- `undo::put` meets its contract: without room nothing is written.
 use mathlib.Core.Path.{sym}
 use lib.Seq.{set_out}
-use borrow.Author.Rules.{rules}
 use Rattle.undo.proofs.put.Goals as goal
 
 pub returns-then-ends-at : goal.returns-then-ends-at

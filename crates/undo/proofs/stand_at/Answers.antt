@@ -1,10 +1,7 @@
-use Prim.Native.Nat.{◌-◌}
 use native.Mathlib.Omega.{arith}
-use mathlib.Core.Path.{◌≡◌, sym, ap, ◌∙◌}
-use Rattle.undo.specs.Groups.{ends_with_release}
-use Rattle.undo.specs.Stands.{marks_of, stand_at}
-use Rattle.undo.proofs.Following.{marks_at, marks_all, marks_skip, marks_stop, marks_here, marks_past, marks_end, next_group, next_stops, group_later}
-use borrow.Author.Rules.{rules}
+use mathlib.Core.Path.{sym, ap, ◌∙◌}
+use Rattle.undo.specs.Stands.{stand_at}
+use Rattle.undo.proofs.Following.{marks_all, marks_skip, marks_stop, marks_here, marks_past, marks_end, next_group, next_stops, group_later}
 use Rattle.undo.proofs.stand_at.Goals as goal
 
 pub returns-then-codes-place : goal.returns-then-codes-place

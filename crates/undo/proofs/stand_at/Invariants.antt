@@ -1,11 +1,9 @@
 -- `undo::stand_at` meets its contract. The loop's invariant: what stands at the place is among the marks from place `at` on.
 use Prim.Native.Nat.{◌-◌}
-use native.Mathlib.Omega.{arith}
-use mathlib.Core.Path.{◌≡◌, sym, ap, ◌∙◌}
+use mathlib.Core.Path.{◌≡◌}
 use Rattle.undo.specs.Groups.{ends_with_release}
 use Rattle.undo.specs.Stands.{marks_of, stand_at}
-use Rattle.undo.proofs.Following.{marks_at, marks_all, marks_skip, marks_stop, marks_here, marks_past, marks_end, next_group, next_stops, group_later}
-use borrow.Author.Rules.{rules}
+use Rattle.undo.proofs.Following.{marks_at}
 use Rattle.undo.proofs.stand_at.Given as goal
 
 abbrev pub invariant-loop-at : goal.invariant-loop-at

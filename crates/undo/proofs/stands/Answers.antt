@@ -1,7 +1,6 @@
 -- `undo::stands` meets its contract: it is declined by the lines before the last, or it is what the marks have there.
 use mathlib.Core.Path.{◌∙◌}
 use Rattle.undo.proofs.Exact.{stands_declined, stands_done}
-use borrow.Author.Rules.{rules}
 use Rattle.undo.proofs.stands.Goals as goal
 
 pub returns-then-number-ne-DONE : goal.returns-then-number-ne-DONE

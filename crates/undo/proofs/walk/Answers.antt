@@ -1,7 +1,6 @@
 -- `undo::walk` meets its contract: it is declined, or all groups are handed out.
 use mathlib.Core.Path.{◌∙◌}
 use Rattle.undo.proofs.Exact.{walk_declined, walk_done}
-use borrow.Author.Rules.{rules}
 use Rattle.undo.proofs.walk.Goals as goal
 
 pub returns-then-number-ne-DONE : goal.returns-then-number-ne-DONE

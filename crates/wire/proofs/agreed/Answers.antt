@@ -1,7 +1,6 @@
 -- `wire::agreed` meets its contract: the bytes are compared with those that a read of as many gives.
 use native.Mathlib.Omega.{arith}
-use borrow.Author.Rules.{rules}
-use Rattle.wire.proofs.Laws.{run_blank, put_fits, agreed_is}
+use Rattle.wire.proofs.Laws.{run_blank, agreed_is}
 use Rattle.wire.proofs.agreed.Goals as goal
 
 pub peek-requires : goal.peek-requires

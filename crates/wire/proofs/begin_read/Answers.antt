@@ -1,7 +1,6 @@
 -- `wire::begin_read` meets its contract: each return is declined at its line of a read of one byte, or all that the read could give is made ahead.
 use native.Mathlib.Omega.{arith}
 use mathlib.Core.Path.{sym, ◌∙◌}
-use borrow.Author.Rules.{rules}
 use borrow.Author.Tests.{not-true, not-false}
 use Rattle.wire.proofs.Laws.{reads_unsound, reads_asleep, one_none, one_done, read_declined, read_begun, run_all}
 use Rattle.wire.proofs.begin_read.Goals as goal

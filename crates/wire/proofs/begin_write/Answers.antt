@@ -1,7 +1,6 @@
 -- `wire::begin_write` meets its contract: each return is declined at its line of an access, or the write is begun.
 use native.Mathlib.Omega.{arith}
 use mathlib.Core.Path.{sym, ◌∙◌}
-use borrow.Author.Rules.{rules}
 use borrow.Author.Tests.{not-true, not-false}
 use Rattle.calls.proofs.Laws.{unsound_access, asleep_first}
 use Rattle.wire.proofs.Laws.{write_declined, write_begun, reaches}

@@ -1,5 +1,4 @@
 -- `wire::drop_open` meets its contract.
-use borrow.Author.Rules.{rules}
 use Rattle.wire.proofs.Laws.{open_dropped}
 use Rattle.wire.proofs.drop_open.Goals as goal
 

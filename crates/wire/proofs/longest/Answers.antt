@@ -1,11 +1,10 @@
-use Prim.Native.Nat.{◌+◌, ◌-◌, ◌≤◌}
+use Prim.Native.Nat.{◌-◌}
 use native.Mathlib.Omega.{arith}
-use mathlib.Core.Path.{◌≡◌, sym, ap, ◌∙◌}
+use mathlib.Core.Path.{sym, ap, ◌∙◌}
 use borrow.Author.Rules.{rules}
 use borrow.Author.Tests.{not-true, not-false}
 use Rattle.registers.specs.declared.Access.TheVariants.{Read}
 use Rattle.registers.specs.Registers.{allowed}
-use Rattle.wire.specs.Wire.{longest, readable}
 use Rattle.wire.proofs.Laws.{longest_begin, readable_end, readable_none, readable_some}
 use Rattle.wire.proofs.longest.Goals as goal
 

@@ -1,13 +1,7 @@
 -- `wire::longest` meets its contract. The loop's invariant: the addresses passed can all be read, and the longest run is those and what can be read of the rest.
 use Prim.Native.Nat.{◌+◌, ◌-◌, ◌≤◌}
-use native.Mathlib.Omega.{arith}
-use mathlib.Core.Path.{◌≡◌, sym, ap, ◌∙◌}
-use borrow.Author.Rules.{rules}
-use borrow.Author.Tests.{not-true, not-false}
-use Rattle.registers.specs.declared.Access.TheVariants.{Read}
-use Rattle.registers.specs.Registers.{allowed}
+use mathlib.Core.Path.{◌≡◌}
 use Rattle.wire.specs.Wire.{longest, readable}
-use Rattle.wire.proofs.Laws.{longest_begin, readable_end, readable_none, readable_some}
 use Rattle.wire.proofs.longest.Given as goal
 
 abbrev pub invariant-loop-n : goal.invariant-loop-n

@@ -1,6 +1,5 @@
 -- `wire::next_byte` meets its contract: the bus is given a byte, or nothing, by what the wire is doing and how many were given.
 use native.Mathlib.Omega.{arith}
-use borrow.Author.Rules.{rules}
 use Rattle.wire.proofs.Laws.{silent_else, silent_past, silent_full, byte_given}
 use Rattle.wire.proofs.next_byte.Goals as goal
 

@@ -1,8 +1,4 @@
-use Prim.Native.Nat.{◌+◌, ◌-◌, ◌≤◌}
-use mathlib.Core.Path.{◌≡◌}
-use lib.ListN.{length, drop}
 use borrow.Author.Rules.{rules}
-use Rattle.wire.specs.Wire.{shared}
 use Rattle.wire.proofs.Laws.{shared_begin, shared_stop, shared_differ, shared_more}
 use Rattle.wire.proofs.shared.Goals as goal
 

@@ -2,9 +2,7 @@
 use Prim.Native.Nat.{◌+◌, ◌-◌, ◌≤◌}
 use mathlib.Core.Path.{◌≡◌}
 use lib.ListN.{length, drop}
-use borrow.Author.Rules.{rules}
 use Rattle.wire.specs.Wire.{shared}
-use Rattle.wire.proofs.Laws.{shared_begin, shared_stop, shared_differ, shared_more}
 use Rattle.wire.proofs.shared.Given as goal
 
 abbrev pub invariant-loop-n : goal.invariant-loop-n

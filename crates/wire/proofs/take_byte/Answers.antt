@@ -1,6 +1,5 @@
 -- `wire::take_byte` meets its contract: by what the wire is doing, and whether it has room.
 use native.Mathlib.Omega.{arith}
-use borrow.Author.Rules.{rules}
 use Rattle.wire.proofs.Laws.{byte_names, byte_refused, byte_nowhere, byte_over, byte_kept}
 use Rattle.wire.proofs.take_byte.Goals as goal
 

@@ -1,5 +1,4 @@
 -- `carry::call::call_at` meets its contract: the numbers are read where the list has the call.
-use borrow.Author.Rules.{rules}
 use Rattle.carry.proofs.Lists.{call_there}
 use Rattle.carry.proofs.call.call_at.Goals as goal
 

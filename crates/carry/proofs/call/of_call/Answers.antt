@@ -1,6 +1,5 @@
 -- `carry::call::of_call` meets its contract: the number is the kind's own.
 use mathlib.Core.Path.{sym, ◌∙◌}
-use borrow.Author.Rules.{rules}
 use Rattle.carry.proofs.Records.{own_look, own_reset, own_access}
 use Rattle.carry.proofs.call.of_call.Goals as goal
 

@@ -1,7 +1,6 @@
 -- `carry::call::put_access` meets its contract: what is laid behind the kind and behind the address is laid behind both.
 use Prim.Native.Nat.{◌-◌}
 use native.Mathlib.Omega.{arith}
-use borrow.Author.Rules.{rules}
 use Rattle.carry.proofs.Records.{access_laid}
 use Rattle.carry.proofs.call.put_access.Goals as goal
 

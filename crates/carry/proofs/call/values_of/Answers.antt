@@ -1,9 +1,8 @@
-use Prim.Native.Nat.{◌≤◌, ◌-◌}
 use native.Mathlib.Omega.{arith}
 use mathlib.Core.Path.{◌≡◌, refl, sym, ap, ◌∙◌}
 use lib.ListN.{get_or, set}
 use borrow.Author.Rules.{rules}
-use Rattle.words.proofs.Tables.{replaced, replaced_none, replaced_next}
+use Rattle.words.proofs.Tables.{replaced_none, replaced_next}
 use Rattle.carry.proofs.Lists.{front_copied}
 use Rattle.carry.proofs.call.values_of.Goals as goal
 

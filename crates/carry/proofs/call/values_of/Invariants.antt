@@ -1,11 +1,8 @@
 -- `carry::call::values_of` meets its contract. The loop's invariant: the values below i are the list's.
 use Prim.Native.Nat.{◌≤◌, ◌-◌}
-use native.Mathlib.Omega.{arith}
-use mathlib.Core.Path.{◌≡◌, refl, sym, ap, ◌∙◌}
-use lib.ListN.{get_or, set}
-use borrow.Author.Rules.{rules}
-use Rattle.words.proofs.Tables.{replaced, replaced_none, replaced_next}
-use Rattle.carry.proofs.Lists.{front_copied}
+use mathlib.Core.Path.{◌≡◌}
+use lib.ListN.{get_or}
+use Rattle.words.proofs.Tables.{replaced}
 use Rattle.carry.proofs.call.values_of.Given as goal
 
 abbrev pub invariant-loop-i : goal.invariant-loop-i

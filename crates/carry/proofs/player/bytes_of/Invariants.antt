@@ -1,9 +1,7 @@
 -- `player::bytes_of` meets its contract. The loop's invariant: the first i numbers are bytes, and 0 is behind them.
 use Prim.Native.Nat.{◌-◌, ◌≤◌}
-use native.Mathlib.Omega.{arith}
-use mathlib.Core.Path.{◌≡◌, ap, ◌∙◌}
-use borrow.Author.Rules.{rules}
-use Rattle.carry.proofs.Playing.{lowered, lowered_none, lowered_next, lowered_all}
+use mathlib.Core.Path.{◌≡◌}
+use Rattle.carry.proofs.Playing.{lowered}
 use Rattle.carry.proofs.player.bytes_of.Given as goal
 
 abbrev pub invariant-loop-i : goal.invariant-loop-i

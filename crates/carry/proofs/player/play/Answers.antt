@@ -1,6 +1,5 @@
 -- `player::play` meets its contract: the check's number declines the list, or its calls are played.
 use mathlib.Core.Path.{sym, ◌∙◌}
-use borrow.Author.Rules.{rules}
 use Rattle.carry.proofs.Reading.{check_list}
 use Rattle.carry.proofs.Playing.{play_done, play_declined}
 use Rattle.carry.proofs.player.play.Goals as goal

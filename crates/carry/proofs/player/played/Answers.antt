@@ -1,12 +1,7 @@
-use Prim.Native.Nat.{◌+◌, ◌*◌, ◌-◌}
-use mathlib.Core.Path.{◌≡◌, sym, ◌∙◌}
-use borrow.Author.Rules.{rules}
-use lib.ListN.{length}
-use Rattle.bits.specs.Bits.{bits_from}
-use Rattle.carry.specs.Carried.{calls_of, unpack}
-use Rattle.carry.specs.Player.{played_as}
-use Rattle.carry.proofs.Reading.{Boundary, boundary_front, boundary_next, boundary_less, end_here}
-use Rattle.carry.proofs.Playing.{play_on, play_front, play_end, play_next, next_there, told_fits}
+use Prim.Native.Nat.{◌+◌, ◌*◌}
+use mathlib.Core.Path.{sym, ◌∙◌}
+use Rattle.carry.proofs.Reading.{boundary_front, boundary_next, boundary_less, end_here}
+use Rattle.carry.proofs.Playing.{play_front, play_end, play_next, next_there, told_fits}
 use Rattle.carry.proofs.player.played.Goals as goal
 
 pub loop-rest-init : goal.loop-rest-init

@@ -1,13 +1,12 @@
 -- `player::played` meets its contract. The loop's invariant: the place is a boundary between records, and playing on from it gives what playing all gives.
 use Prim.Native.Nat.{◌+◌, ◌*◌, ◌-◌}
-use mathlib.Core.Path.{◌≡◌, sym, ◌∙◌}
-use borrow.Author.Rules.{rules}
+use mathlib.Core.Path.{◌≡◌}
 use lib.ListN.{length}
 use Rattle.bits.specs.Bits.{bits_from}
 use Rattle.carry.specs.Carried.{calls_of, unpack}
 use Rattle.carry.specs.Player.{played_as}
-use Rattle.carry.proofs.Reading.{Boundary, boundary_front, boundary_next, boundary_less, end_here}
-use Rattle.carry.proofs.Playing.{play_on, play_front, play_end, play_next, next_there, told_fits}
+use Rattle.carry.proofs.Reading.{Boundary}
+use Rattle.carry.proofs.Playing.{play_on}
 use Rattle.carry.proofs.player.played.Given as goal
 
 abbrev pub invariant-loop-rest : goal.invariant-loop-rest

@@ -1,8 +1,5 @@
-use Prim.Native.Nat.{◌+◌, ◌*◌, ◌-◌}
-use borrow.Author.Rules.{rules}
 use borrow.Author.Tests.{not-true, not-false}
-use lib.ListN.{length}
-use Rattle.carry.proofs.Reading.{Boundary, boundary_front, boundary_next, boundary_less, end_here, next_here, check_end, check_short}
+use Rattle.carry.proofs.Reading.{boundary_front, boundary_next, boundary_less, end_here, next_here, check_end, check_short}
 use Rattle.carry.proofs.reader.check.Goals as goal
 
 pub loop-rest-init : goal.loop-rest-init

@@ -5,7 +5,6 @@ use native.Mathlib.Omega.{arith}
 use mathlib.Core.Path.{ap, ◌∙◌}
 use Rattle.bits.specs.Bits.{bits_from}
 use Rattle.carry.proofs.Reading.{count_low}
-use borrow.Author.Rules.{rules}
 use Rattle.carry.proofs.reader.count_at.Goals as goal
 
 pub overflow_add-result : goal.overflow_add-result

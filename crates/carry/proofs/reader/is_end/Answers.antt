@@ -3,7 +3,6 @@ use Prim.Native.Nat.{ℕ}
 use mathlib.Core.Path.{sym, ap, ◌∙◌}
 use lib.Dec.{eqb}
 use Rattle.carry.proofs.Reading.{end_long, end_short}
-use borrow.Author.Rules.{rules}
 use Rattle.carry.proofs.reader.is_end.Goals as goal
 
 pub returns-then-is_room : goal.returns-then-is_room

@@ -1,7 +1,6 @@
 -- `reader::record_at` meets its contract: each answer is the one for what is at the place.
 use native.Mathlib.Omega.{arith}
 use mathlib.Core.Path.{ap, ◌∙◌}
-use borrow.Author.Rules.{rules}
 use borrow.Author.Tests.{not-true, not-false}
 use Rattle.carry.specs.Carried.{told}
 use Rattle.carry.specs.Calls.{call_of}

@@ -1,7 +1,6 @@
 -- `reader::told_at` meets its contract: by the kind, each number from its place in the record.
 use mathlib.Core.Path.{sym, ◌∙◌}
 use Rattle.carry.proofs.Reading.{look_call_lem, write_call_lem, read_call_lem, reset_call_lem}
-use borrow.Author.Rules.{rules}
 use Rattle.carry.proofs.reader.told_at.Goals as goal
 
 pub returns-in-0 : goal.returns-in-0

@@ -1,12 +1,11 @@
-use Prim.Native.Nat.{◌+◌, ◌*◌, ◌-◌, ◌≤◌}
 use native.Mathlib.Omega.{arith}
-use mathlib.Core.Path.{◌≡◌, sym, ap, ◌∙◌}
+use mathlib.Core.Path.{sym, ap, ◌∙◌}
 use lib.ListN.{length}
 use borrow.Author.Rules.{rules}
 use Rattle.numbers.specs.Numbers.{number_of}
 use Rattle.carry.specs.Carried.{records}
 use Rattle.carry.specs.Writer.{list_lines}
-use Rattle.carry.proofs.Lists.{begun, begun_all, call_within}
+use Rattle.carry.proofs.Lists.{begun_all, call_within}
 use Rattle.carry.proofs.Writing.{list_none, list_next, list_declined, records_none, place_next}
 use Rattle.carry.proofs.writer.measured.Goals as goal
 

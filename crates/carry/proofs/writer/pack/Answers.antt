@@ -1,6 +1,5 @@
 -- `carry::writer::pack` meets its contract: each return stops at its line and has passed those before it.
 use mathlib.Core.Path.{sym, ◌∙◌}
-use borrow.Author.Rules.{rules}
 use Rattle.carry.proofs.Writing.{place_bytes, pack_declined, pack_no_room, pack_done}
 use Rattle.carry.proofs.writer.pack.Goals as goal
 

@@ -1,16 +1,12 @@
 -- `carry::writer::put_calls` meets its contract. The loop's invariant: the records of the calls before i are laid at the front, and the place is behind them.
 use Prim.Native.Nat.{◌+◌, ◌*◌, ◌-◌, ◌≤◌}
-use native.Mathlib.Omega.{arith}
-use mathlib.Core.Path.{◌≡◌, refl, sym, ap, ◌∙◌}
+use mathlib.Core.Path.{◌≡◌}
 use mathlib.Core.Bool.{true}
 use lib.ListN.{length}
-use borrow.Author.Rules.{rules}
 use Rattle.words.specs.Words.{all}
 use Rattle.bits.specs.Bits.{below, laid}
-use Rattle.bits.proofs.Laid.{all_bytes}
 use Rattle.carry.specs.Carried.{records}
-use Rattle.carry.proofs.Lists.{begun, begun_all, call_within}
-use Rattle.carry.proofs.Writing.{own_done, records_none, none_laid, place_next, room_next, back_laid, records_laid}
+use Rattle.carry.proofs.Lists.{begun}
 use Rattle.carry.proofs.writer.put_calls.Given as goal
 
 abbrev pub invariant-loop-i : goal.invariant-loop-i

@@ -1,7 +1,6 @@
 -- `state::queue::put` meets its contract: each return rewrites with the test that led there.
 use borrow.Author.Tests.{lt-ltb, le-ltb}
 use Rattle.state.specs.Queue.{put}
-use borrow.Author.Rules.{rules}
 use Rattle.state.proofs.queue.put.Goals as goal
 
 pub returns-then-at-lt-FULL : goal.returns-then-at-lt-FULL

@@ -4,7 +4,6 @@ use mathlib.Core.Path.{◌∙◌, ap}
 use mathlib.Core.List.{List}
 use Rattle.state.specs.Module.{queue}
 use Rattle.state.proofs.Laws.{taken_none, taken_some}
-use borrow.Author.Rules.{rules}
 use Rattle.state.proofs.queue.take_oldest.Goals as goal
 
 pub returns-then-waiting-lt1 : goal.returns-then-waiting-lt1

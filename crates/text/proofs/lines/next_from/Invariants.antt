@@ -1,7 +1,6 @@
 -- `lines::next_from` meets its contract: the loop goes on to the input's end.
 use Prim.Native.Nat.{◌≤◌, ◌-◌}
 use lib.ListN.{length}
-use borrow.Author.Rules.{rules}
 use Rattle.text.proofs.lines.next_from.Given as goal
 
 abbrev pub invariant-loop-i : goal.invariant-loop-i

@@ -1,8 +1,5 @@
-use Prim.Native.Nat.{◌≤◌, ◌-◌, min}
 use native.Mathlib.Omega.{arith}
-use mathlib.Core.Path.{◌≡◌, refl, ◌∙◌}
-use lib.ListN.{length, drop}
-use Rattle.text.specs.Digits.{digits, told}
+use mathlib.Core.Path.{refl, ◌∙◌}
 use Rattle.text.proofs.Laws.{product_most, digits_end, digits_no, digits_yes, told_end, told_yes, number_none, number_no_digit, number_large, number_value}
 use borrow.Author.Rules.{rules}
 use Rattle.text.proofs.number.number_of.Goals as goal

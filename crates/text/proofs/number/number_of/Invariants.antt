@@ -1,12 +1,9 @@
 -- `number::number_of` meets its contract. The loop's invariant: all bytes are digits exactly when those left are, and the digits left
 -- tell, behind the number that is held at one above the most, what all of them tell, up to one above the most.
 use Prim.Native.Nat.{◌≤◌, ◌-◌, min}
-use native.Mathlib.Omega.{arith}
-use mathlib.Core.Path.{◌≡◌, refl, ◌∙◌}
+use mathlib.Core.Path.{◌≡◌}
 use lib.ListN.{length, drop}
 use Rattle.text.specs.Digits.{digits, told}
-use Rattle.text.proofs.Laws.{product_most, digits_end, digits_no, digits_yes, told_end, told_yes, number_none, number_no_digit, number_large, number_value}
-use borrow.Author.Rules.{rules}
 use Rattle.text.proofs.number.number_of.Given as goal
 
 abbrev pub invariant-loop-i : goal.invariant-loop-i

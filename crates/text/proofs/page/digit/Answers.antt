@@ -1,7 +1,6 @@
 -- `page::digit` meets its contract: it puts the digit's glyph.
 use mathlib.Core.Path.{ap, ◌∙◌}
 use Rattle.text.specs.Pages.{put}
-use borrow.Author.Rules.{rules}
 use Rattle.text.proofs.page.digit.Goals as goal
 
 pub returns : goal.returns

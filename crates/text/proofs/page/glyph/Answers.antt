@@ -1,7 +1,6 @@
 -- `page::glyph` meets its contract: each return rewrites with the test that led there.
 use borrow.Author.Tests.{lt-ltb, le-ltb}
 use Rattle.text.specs.Pages.{glyph}
-use borrow.Author.Rules.{rules}
 use Rattle.text.proofs.page.glyph.Goals as goal
 
 pub returns-then-d-lt10 : goal.returns-then-d-lt10

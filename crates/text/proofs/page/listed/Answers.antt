@@ -1,7 +1,4 @@
-use Prim.Native.Nat.{◌≤◌, ◌+◌, ◌-◌, ◌*◌}
-use mathlib.Core.Path.{◌≡◌, refl, sym, ◌∙◌}
-use lib.ListN.{length, drop}
-use Rattle.text.specs.Pages.{listed, wrote}
+use mathlib.Core.Path.{refl, sym, ◌∙◌}
 use Rattle.text.proofs.Laws.{listed_end, listed_next}
 use borrow.Author.Rules.{rules}
 use Rattle.text.proofs.page.listed.Goals as goal

@@ -1,10 +1,8 @@
 -- `page::listed` meets its contract. The loop's invariant: the page with the rest of the bytes is the page with all of them.
 use Prim.Native.Nat.{◌≤◌, ◌+◌, ◌-◌, ◌*◌}
-use mathlib.Core.Path.{◌≡◌, refl, sym, ◌∙◌}
+use mathlib.Core.Path.{◌≡◌}
 use lib.ListN.{length, drop}
 use Rattle.text.specs.Pages.{listed, wrote}
-use Rattle.text.proofs.Laws.{listed_end, listed_next}
-use borrow.Author.Rules.{rules}
 use Rattle.text.proofs.page.listed.Given as goal
 
 abbrev pub invariant-loop-i : goal.invariant-loop-i

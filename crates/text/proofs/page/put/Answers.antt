@@ -1,7 +1,6 @@
 -- `page::put` meets its contract: the byte stands behind those used.
 use mathlib.Core.Path.{refl}
 use Rattle.text.specs.Pages.{put}
-use borrow.Author.Rules.{rules}
 use Rattle.text.proofs.page.put.Goals as goal
 
 pub returns : goal.returns

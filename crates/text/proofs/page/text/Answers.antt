@@ -1,7 +1,4 @@
-use Prim.Native.Nat.{◌≤◌, ◌+◌, ◌-◌}
-use mathlib.Core.Path.{◌≡◌, refl, sym, ◌∙◌}
-use lib.ListN.{length, drop}
-use Rattle.text.specs.Pages.{wrote}
+use mathlib.Core.Path.{refl, sym, ◌∙◌}
 use Rattle.text.proofs.Laws.{wrote_end, wrote_next}
 use borrow.Author.Rules.{rules}
 use Rattle.text.proofs.page.text.Goals as goal

@@ -1,10 +1,8 @@
 -- `page::text` meets its contract. The loop's invariant: the page with the rest of the text is the page with all of it.
 use Prim.Native.Nat.{◌≤◌, ◌+◌, ◌-◌}
-use mathlib.Core.Path.{◌≡◌, refl, sym, ◌∙◌}
+use mathlib.Core.Path.{◌≡◌}
 use lib.ListN.{length, drop}
 use Rattle.text.specs.Pages.{wrote}
-use Rattle.text.proofs.Laws.{wrote_end, wrote_next}
-use borrow.Author.Rules.{rules}
 use Rattle.text.proofs.page.text.Given as goal
 
 abbrev pub invariant-loop-i : goal.invariant-loop-i

@@ -1,8 +1,5 @@
-use Prim.Native.Nat.{◌≤◌, ◌-◌, ◌+◌}
-use mathlib.Core.Path.{◌≡◌, refl}
+use mathlib.Core.Path.{refl}
 use native.Mathlib.Omega.{arith}
-use lib.ListN.{length, drop}
-use Rattle.text.specs.Line.{up_to}
 use Rattle.text.proofs.Laws.{up_to_end, up_to_yes, up_to_no}
 use borrow.Author.Rules.{rules}
 use Rattle.text.proofs.word.first.Goals as goal

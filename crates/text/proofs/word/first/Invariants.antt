@@ -1,11 +1,8 @@
 -- `word::first` meets its contract. The loop's invariant: what is asked from its first place on is asked from here on.
 use Prim.Native.Nat.{◌≤◌, ◌-◌, ◌+◌}
-use mathlib.Core.Path.{◌≡◌, refl}
-use native.Mathlib.Omega.{arith}
+use mathlib.Core.Path.{◌≡◌}
 use lib.ListN.{length, drop}
 use Rattle.text.specs.Line.{up_to}
-use Rattle.text.proofs.Laws.{up_to_end, up_to_yes, up_to_no}
-use borrow.Author.Rules.{rules}
 use Rattle.text.proofs.word.first.Given as goal
 
 abbrev pub invariant-loop-i : goal.invariant-loop-i

@@ -1,7 +1,6 @@
 -- `word::is_end` meets its contract: by that of `word::word_from`.
 use mathlib.Core.Path.{ap}
 use lib.Dec.{eqb}
-use borrow.Author.Rules.{rules}
 use Rattle.text.specs.declared.word.Word.{Word}
 use Rattle.text.proofs.word.is_end.Goals as goal
 

@@ -1,7 +1,4 @@
-use Prim.Native.Nat.{◌≤◌, ◌-◌}
-use mathlib.Core.Path.{◌≡◌, refl, sym, ◌∙◌}
-use lib.ListN.{length, drop}
-use Rattle.text.specs.Line.{same}
+use mathlib.Core.Path.{refl, sym, ◌∙◌}
 use Rattle.text.proofs.Laws.{same_apart, same_end, same_no, same_yes}
 use borrow.Author.Rules.{rules}
 use Rattle.text.proofs.word.is_same.Goals as goal

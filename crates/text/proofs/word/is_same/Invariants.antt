@@ -1,10 +1,8 @@
 -- `word::is_same` meets its contract. The loop's invariant: the words are the same exactly when what is left of them is.
 use Prim.Native.Nat.{◌≤◌, ◌-◌}
-use mathlib.Core.Path.{◌≡◌, refl, sym, ◌∙◌}
+use mathlib.Core.Path.{◌≡◌}
 use lib.ListN.{length, drop}
 use Rattle.text.specs.Line.{same}
-use Rattle.text.proofs.Laws.{same_apart, same_end, same_no, same_yes}
-use borrow.Author.Rules.{rules}
 use Rattle.text.proofs.word.is_same.Given as goal
 
 abbrev pub invariant-loop-i : goal.invariant-loop-i
