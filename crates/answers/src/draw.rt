@@ -1,11 +1,11 @@
 // The panel drawn for a person.
 ghost use Rattle.std.specs.Prelude.{◌≤◌};
 
+use crate::out::Output;
 use crate::{out, spare};
 use keys::{COLS, Col, KEYS, Row, SPECIAL};
 use state::{Module, PLACES};
 use text::page;
-use text::page::Page;
 
 // The line above the keys: five places, and three for each column's label.
 const HEAD: [u8; 41] = *b"row    0  1  2  3  4  5  6  7  8  9 10 11";
@@ -34,20 +34,20 @@ fn sign_at<'a>(held: &'a [bool; KEYS], run: &'a [u8; KEYS], row: Row, col: Col) 
 }
 
 // The mark of a key: its sign behind two blanks.
-fn mark<'a>(p: Page, held: &'a [bool; KEYS], run: &'a [u8; KEYS], row: Row, col: Col) -> Page {
+fn mark<'a>(p: Output, held: &'a [bool; KEYS], run: &'a [u8; KEYS], row: Row, col: Col) -> Output {
     let words = [b' ', b' ', sign_at(held, run, row, col)];
     out::text(p, &words)
 }
 
 // The line above the keys, with the labels of the first columns.
-fn columns(p: Page, cols: u8) -> Page {
+fn columns(p: Output, cols: u8) -> Output {
     let head = HEAD;
     let n = 5 + 3 * page::least(cols as usize, 12);
     out::text(out::text(p, &head[0..n]), b"   SF\n")
 }
 
 // The marks of a row's keys.
-fn marks<'a>(p: Page, held: &'a [bool; KEYS], run: &'a [u8; KEYS], row: u8, cols: u8) -> Page {
+fn marks<'a>(p: Output, held: &'a [bool; KEYS], run: &'a [u8; KEYS], row: u8, cols: u8) -> Output {
     let mut next = p;
     let mut c: u8 = 0;
     while c < cols {
@@ -58,7 +58,13 @@ fn marks<'a>(p: Page, held: &'a [bool; KEYS], run: &'a [u8; KEYS], row: u8, cols
 }
 
 // The line of a row: its label, its keys, and its special function key apart.
-fn keys_of<'a>(p: Page, held: &'a [bool; KEYS], run: &'a [u8; KEYS], row: u8, cols: u8) -> Page {
+fn keys_of<'a>(
+    p: Output,
+    held: &'a [bool; KEYS],
+    run: &'a [u8; KEYS],
+    row: u8,
+    cols: u8,
+) -> Output {
     let label = out::decimal(out::put(p, b' '), row as u32);
     let marked = marks(out::text(label, b"   "), held, run, row, cols);
     let apart = out::text(marked, b"  ");
@@ -66,7 +72,7 @@ fn keys_of<'a>(p: Page, held: &'a [bool; KEYS], run: &'a [u8; KEYS], row: u8, co
 }
 
 // The keys of the size.
-fn grid<'a>(p: Page, held: &'a [bool; KEYS], run: &'a [u8; KEYS], size: u8) -> Page {
+fn grid<'a>(p: Output, held: &'a [bool; KEYS], run: &'a [u8; KEYS], size: u8) -> Output {
     let rows = size / 16;
     let cols = size % 16;
     let mut next = columns(p, cols);
@@ -79,7 +85,7 @@ fn grid<'a>(p: Page, held: &'a [bool; KEYS], run: &'a [u8; KEYS], size: u8) -> P
 }
 
 // The column of a code.
-fn column(p: Page, col: u8) -> Page {
+fn column(p: Output, col: u8) -> Output {
     if col == SPECIAL {
         return out::text(p, b" SF\n");
     }
@@ -87,7 +93,7 @@ fn column(p: Page, col: u8) -> Page {
 }
 
 // What a code tells.
-fn name(p: Page, code: u8) -> Page {
+fn name(p: Output, code: u8) -> Output {
     let row = ((code % 128) / 16) as u32;
     let col = code % 16;
     if code < 128 {
@@ -99,7 +105,7 @@ fn name(p: Page, code: u8) -> Page {
 }
 
 // What each of some codes tells.
-fn names(p: Page, codes: &[u8]) -> Page {
+fn names(p: Output, codes: &[u8]) -> Output {
     let mut next = p;
     let mut i: usize = 0;
     while i < codes.len() {
@@ -110,19 +116,19 @@ fn names(p: Page, codes: &[u8]) -> Page {
 }
 
 // The codes that wait, oldest first, and what they tell.
-fn codes(p: Page, queue: [u8; PLACES], count: u8) -> Page {
+fn codes(p: Output, queue: [u8; PLACES], count: u8) -> Output {
     let n = page::least(count as usize, 15);
     let waiting = out::listed(out::text(p, b"waiting:"), &queue[0..n]);
     names(out::end(waiting), &queue[0..n])
 }
 
 // A name and a flag.
-fn flag(p: Page, name: &[u8], set: bool) -> Page {
+fn flag(p: Output, name: &[u8], set: bool) -> Output {
     out::decimal(out::text(p, name), set as u32)
 }
 
 // KBDRIS with its flags.
-fn raw(p: Page, m: Module) -> Page {
+fn raw(p: Output, m: Module) -> Output {
     let ris = flags::ris(m.relint, m.count, m.rklint, m.rsint);
     let byte = out::hex(p, b"KBDRIS ", ris);
     let relint = flag(byte, b": RELINT ", m.relint);
@@ -132,20 +138,20 @@ fn raw(p: Page, m: Module) -> Page {
 }
 
 // KBDMIS.
-fn masked(p: Page, m: Module) -> Page {
+fn masked(p: Output, m: Module) -> Output {
     let mis = flags::mis(m.relint, m.count, m.rklint, m.rsint, m.mask);
     out::hex(p, b"\nKBDMIS ", mis)
 }
 
 // The settings.
-fn settings(p: Page, m: Module) -> Page {
+fn settings(p: Output, m: Module) -> Output {
     let bounce = out::hex(p, b"\nKBDBOUNCE ", m.bounce);
     let size = out::hex(bounce, b", KBDSIZE ", m.size);
     out::hex(size, b", KBDMSK ", m.mask)
 }
 
 // The power-on interrupt, and how the interrupt line is.
-fn level(p: Page, porirq: bool, asserted: bool) -> Page {
+fn level(p: Output, porirq: bool, asserted: bool) -> Output {
     let page = flag(p, b"\nPORIRQ ", porirq);
     if asserted {
         return out::text(page, b", interrupt line asserted\n");
@@ -154,8 +160,8 @@ fn level(p: Page, porirq: bool, asserted: bool) -> Page {
 }
 
 // Whether the panel sleeps; while it is awake, how many quiet looks there were in a row. A full stop is the last line.
-fn sleep(p: Page, quiet: u8, asleep: bool) -> Page
-    ensures { result.at ≤ 256 }
+fn sleep(p: Output, quiet: u8, asleep: bool) -> Output
+    ensures { result.page.at ≤ 256 }
 {
     if asleep {
         return out::text(p, b"asleep\n.\n");
@@ -165,8 +171,8 @@ fn sleep(p: Page, quiet: u8, asleep: bool) -> Page
 }
 
 // The panel: keys, codes, registers, flags, pins, line and sleep; the last line is a full stop.
-pub fn show(p: Page, m: Module) -> Page
-    ensures { result.at ≤ 256 }
+pub fn show(p: Output, m: Module) -> Output
+    ensures { result.page.at ≤ 256 }
 {
     let held = m.held;
     let run = m.run;

@@ -2,18 +2,18 @@
 ghost use Rattle.std.specs.Prelude.{◌≤◌};
 
 use crate::out;
-use text::page::Page;
+use crate::out::Output;
 
 // The file to play can't be read.
-pub fn unreadable(p: Page) -> Page
-    ensures { result.at ≤ 256 }
+pub fn unreadable(p: Output) -> Output
+    ensures { result.page.at ≤ 256 }
 {
     out::text(p, b"? the file to play can't be read\n")
 }
 
 // The file to play is too long.
-pub fn too_long(p: Page) -> Page
-    ensures { result.at ≤ 256 }
+pub fn too_long(p: Output) -> Output
+    ensures { result.page.at ≤ 256 }
 {
     out::text(
         p,
@@ -22,8 +22,8 @@ pub fn too_long(p: Page) -> Page
 }
 
 // The file to play is no packed list.
-pub fn no_list(p: Page) -> Page
-    ensures { result.at ≤ 256 }
+pub fn no_list(p: Output) -> Output
+    ensures { result.page.at ≤ 256 }
 {
     out::text(
         p,
@@ -32,15 +32,15 @@ pub fn no_list(p: Page) -> Page
 }
 
 // The file to record to can't be written.
-pub fn unwritable(p: Page) -> Page
-    ensures { result.at ≤ 256 }
+pub fn unwritable(p: Output) -> Output
+    ensures { result.page.at ≤ 256 }
 {
     out::text(p, b"? the file to record to can't be written\n")
 }
 
 // The program's words name no files.
-pub fn unknown(p: Page) -> Page
-    ensures { result.at ≤ 256 }
+pub fn unknown(p: Output) -> Output
+    ensures { result.page.at ≤ 256 }
 {
     out::text(
         p,

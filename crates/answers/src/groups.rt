@@ -2,35 +2,36 @@
 ghost use Rattle.std.specs.Prelude.{◌≤◌};
 
 use crate::out;
+use crate::out::Output;
 use keys::SPECIAL;
 use numbers::DONE;
-use text::page::{Page, least};
+use text::page::least;
 use undo::Stand;
 
 // A name, and a place or how many there are.
-fn count(p: Page, name: &[u8], number: usize) -> Page
-    ensures { result.at ≤ 256 }
+fn count(p: Output, name: &[u8], number: usize) -> Output
+    ensures { result.page.at ≤ 256 }
 {
     out::decimal(out::text(p, name), least(number, 999999) as u32)
 }
 
 // A number alone.
-fn number(p: Page, number: u8) -> Page
-    ensures { result.at ≤ 256 }
+fn number(p: Output, number: u8) -> Output
+    ensures { result.page.at ≤ 256 }
 {
     out::end(out::decimal(p, number as u32))
 }
 
 // A group by its places.
-fn group(p: Page, first: usize, end: usize) -> Page
-    ensures { result.at ≤ 256 }
+fn group(p: Output, first: usize, end: usize) -> Output
+    ensures { result.page.at ≤ 256 }
 {
     count(count(p, b" group ", first), b" ", end)
 }
 
 // What stands at a place of a list.
-pub fn stand(p: Page, trim: u8, codes: &[u8], place: usize) -> Page
-    ensures { result.at ≤ 256 }
+pub fn stand(p: Output, trim: u8, codes: &[u8], place: usize) -> Output
+    ensures { result.page.at ≤ 256 }
 {
     let stand = undo::stands(trim, codes, place);
     match stand {
@@ -42,8 +43,8 @@ pub fn stand(p: Page, trim: u8, codes: &[u8], place: usize) -> Page
 }
 
 // The codes of the group that begins at a place of a list.
-pub fn stretch(p: Page, trim: u8, codes: &[u8], place: usize) -> Page
-    ensures { result.at ≤ 256 }
+pub fn stretch(p: Output, trim: u8, codes: &[u8], place: usize) -> Output
+    ensures { result.page.at ≤ 256 }
 {
     let stand = undo::stands(trim, codes, place);
     match stand {
@@ -56,7 +57,7 @@ pub fn stretch(p: Page, trim: u8, codes: &[u8], place: usize) -> Page
 }
 
 // The groups that end at these places, by their places.
-fn groups(p: Page, ends: &[usize]) -> Page {
+fn groups(p: Output, ends: &[usize]) -> Output {
     let mut next = p;
     let mut first: usize = 0;
     let mut i: usize = 0;
@@ -70,8 +71,8 @@ fn groups(p: Page, ends: &[usize]) -> Page {
 }
 
 // All groups of a list, by their places.
-pub fn all(p: Page, trim: u8, codes: &[u8]) -> Page
-    ensures { result.at ≤ 256 }
+pub fn all(p: Output, trim: u8, codes: &[u8]) -> Output
+    ensures { result.page.at ≤ 256 }
 {
     let mut ends = [0usize; 8192];
     let walked = undo::walk(trim, codes, &mut ends);
@@ -87,8 +88,8 @@ pub fn all(p: Page, trim: u8, codes: &[u8]) -> Page
 }
 
 // The key of a code: row and column.
-fn key(p: Page, code: u8) -> Page
-    ensures { result.at ≤ 256 }
+fn key(p: Output, code: u8) -> Output
+    ensures { result.page.at ≤ 256 }
 {
     let col = code % 16;
     let row = out::put(out::decimal(p, (code % 128 / 16) as u32), b'.');
@@ -99,8 +100,8 @@ fn key(p: Page, code: u8) -> Page
 }
 
 // A code behind a blank: a press or a release, and its key.
-fn change(p: Page, code: u8) -> Page
-    ensures { result.at ≤ 256 }
+fn change(p: Output, code: u8) -> Output
+    ensures { result.page.at ≤ 256 }
 {
     if code < 128 {
         return key(out::text(p, b" +"), code);
@@ -109,7 +110,7 @@ fn change(p: Page, code: u8) -> Page
 }
 
 // Codes, each behind a blank.
-fn changes(p: Page, codes: &[u8]) -> Page {
+fn changes(p: Output, codes: &[u8]) -> Output {
     let mut next = p;
     let mut i: usize = 0;
     while i < codes.len() {
@@ -120,7 +121,7 @@ fn changes(p: Page, codes: &[u8]) -> Page {
 }
 
 // A place, right-aligned in four columns.
-fn aligned(p: Page, place: usize) -> Page {
+fn aligned(p: Output, place: usize) -> Output {
     if place < 10 {
         return count(p, b"   ", place);
     }
@@ -134,14 +135,14 @@ fn aligned(p: Page, place: usize) -> Page {
 }
 
 // The line of a group.
-fn line(p: Page, first: usize, name: &[u8], codes: &[u8]) -> Page
-    ensures { result.at ≤ 256 }
+fn line(p: Output, first: usize, name: &[u8], codes: &[u8]) -> Output
+    ensures { result.page.at ≤ 256 }
 {
     out::end(changes(out::text(aligned(p, first), name), codes))
 }
 
 // The line of a finished group, from its first place to the place behind its last.
-fn finished(p: Page, trim: u8, codes: &[u8], first: usize, end: usize) -> Page {
+fn finished(p: Output, trim: u8, codes: &[u8], first: usize, end: usize) -> Output {
     let to = least(end, codes.len());
     if to <= first {
         return p;
@@ -153,7 +154,7 @@ fn finished(p: Page, trim: u8, codes: &[u8], first: usize, end: usize) -> Page {
 }
 
 // The lines of the groups that end at these places.
-fn lines(p: Page, trim: u8, codes: &[u8], ends: &[usize]) -> Page {
+fn lines(p: Output, trim: u8, codes: &[u8], ends: &[usize]) -> Output {
     let mut next = p;
     let mut first: usize = 0;
     let mut i: usize = 0;
@@ -167,7 +168,7 @@ fn lines(p: Page, trim: u8, codes: &[u8], ends: &[usize]) -> Page {
 }
 
 // The line of the group that is open at the end, if there is one.
-fn tail(p: Page, codes: &[u8], first: usize) -> Page {
+fn tail(p: Output, codes: &[u8], first: usize) -> Output {
     let n = codes.len();
     if n <= first {
         return p;
@@ -176,7 +177,7 @@ fn tail(p: Page, codes: &[u8], first: usize) -> Page {
 }
 
 // The first code that doesn't agree with those before it.
-fn disagreement(p: Page, place: usize, code: u8) -> Page {
+fn disagreement(p: Output, place: usize, code: u8) -> Output {
     let page = count(p, b"24 place ", place);
     if code < 128 {
         return out::end(change(out::text(page, b" presses a key that is down:"), code));
@@ -185,7 +186,7 @@ fn disagreement(p: Page, place: usize, code: u8) -> Page {
 }
 
 // Why a list is declined.
-fn declined(p: Page, trim: u8, codes: &[u8]) -> Page {
+fn declined(p: Output, trim: u8, codes: &[u8]) -> Output {
     if (127 < trim) | !keys::is_code(trim) {
         return out::end(out::hex(p, b"23 the trim key's code is no press of a key: ", trim));
     }
@@ -202,7 +203,7 @@ fn declined(p: Page, trim: u8, codes: &[u8]) -> Page {
 }
 
 // The groups of a list, a line each, below the trim key and how many codes there are.
-fn body(p: Page, trim: u8, codes: &[u8], ends: &[usize], open: usize) -> Page {
+fn body(p: Output, trim: u8, codes: &[u8], ends: &[usize], open: usize) -> Output {
     let head = key(out::text(p, b"trim key "), trim);
     let page = out::text(
         count(head, b"; codes: ", codes.len()),
@@ -212,8 +213,8 @@ fn body(p: Page, trim: u8, codes: &[u8], ends: &[usize], open: usize) -> Page {
 }
 
 // The groups of a list drawn, or why it is declined; of the codes since the restart there may have been more. The last line is a full stop.
-pub fn drawn(p: Page, trim: u8, codes: &[u8], more: bool) -> Page
-    ensures { result.at ≤ 256 }
+pub fn drawn(p: Output, trim: u8, codes: &[u8], more: bool) -> Output
+    ensures { result.page.at ≤ 256 }
 {
     let mut ends = [0usize; 8192];
     let walked = undo::walk(trim, codes, &mut ends);

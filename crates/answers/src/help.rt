@@ -2,11 +2,11 @@
 ghost use Rattle.std.specs.Prelude.{◌≤◌};
 
 use crate::out;
-use text::page::Page;
+use crate::out::Output;
 
 // The commands.
-pub fn commands(p: Page) -> Page
-    ensures { result.at ≤ 256 }
+pub fn commands(p: Output) -> Output
+    ensures { result.page.at ≤ 256 }
 {
     out::text(
         p,
@@ -39,8 +39,8 @@ pub fn commands(p: Page) -> Page
 }
 
 // The numbers.
-pub fn numbers(p: Page) -> Page
-    ensures { result.at ≤ 256 }
+pub fn numbers(p: Output) -> Output
+    ensures { result.page.at ≤ 256 }
 {
     out::text(
         p,

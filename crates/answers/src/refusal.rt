@@ -2,8 +2,9 @@
 ghost use Rattle.std.specs.Prelude.{◌≤◌};
 
 use crate::out;
+use crate::out::Output;
 use text::number::Fault;
-use text::page::{Page, least};
+use text::page::least;
 
 // What is wanted of a word: a sample; an address or a byte; how many bytes to read; a row or a column that is asked for; the row and the column of a contact;
 // how many looks to make; the bytes of a buffer; the digits of a packed list; a code; by which rule and at which place a list of codes is cut;
@@ -49,7 +50,7 @@ fn shown(byte: u8) -> u8 {
 }
 
 // The first bytes of a word.
-fn beginning(p: Page, word: &[u8]) -> Page {
+fn beginning(p: Output, word: &[u8]) -> Output {
     let n = least(word.len(), SHOWN);
     let mut next = p;
     let mut i: usize = 0;
@@ -61,7 +62,7 @@ fn beginning(p: Page, word: &[u8]) -> Page {
 }
 
 // A word as it is shown.
-fn quoted(p: Page, word: &[u8]) -> Page {
+fn quoted(p: Output, word: &[u8]) -> Output {
     let page = beginning(p, word);
     if SHOWN < word.len() {
         return out::text(page, b"..");
@@ -70,14 +71,14 @@ fn quoted(p: Page, word: &[u8]) -> Page {
 }
 
 // The word of a line that stands at these places.
-fn word_at(p: Page, line: &[u8], start: usize, end: usize) -> Page {
+fn word_at(p: Output, line: &[u8], start: usize, end: usize) -> Output {
     let to = least(end, line.len());
     let from = least(start, to);
     quoted(p, &line[from..to])
 }
 
 // What a word is not, if some digit is none.
-fn not_a_number(p: Page, kind: Kind) -> Page {
+fn not_a_number(p: Output, kind: Kind) -> Output {
     match kind {
         Kind::Sample => out::text(p, b"? not a hexadecimal number: "),
         Kind::Byte => out::text(p, b"? not a hexadecimal number: "),
@@ -89,8 +90,8 @@ fn not_a_number(p: Page, kind: Kind) -> Page {
 }
 
 // What was wanted of such a word.
-fn digits_wanted(p: Page, kind: Kind) -> Page
-    ensures { result.at ≤ 256 }
+fn digits_wanted(p: Output, kind: Kind) -> Output
+    ensures { result.page.at ≤ 256 }
 {
     match kind {
         Kind::Sample => out::text(p, b" (samples are hexadecimal)\n"),
@@ -109,7 +110,7 @@ fn digits_wanted(p: Page, kind: Kind) -> Page
 }
 
 // What a number is not, if it is too large.
-fn not_in_range(p: Page, kind: Kind) -> Page {
+fn not_in_range(p: Output, kind: Kind) -> Output {
     match kind {
         Kind::Row => out::text(p, b"? not a row: "),
         Kind::Col => out::text(p, b"? not a column: "),
@@ -119,8 +120,8 @@ fn not_in_range(p: Page, kind: Kind) -> Page {
 }
 
 // What was wanted of such a number.
-fn range_wanted(p: Page, kind: Kind) -> Page
-    ensures { result.at ≤ 256 }
+fn range_wanted(p: Output, kind: Kind) -> Output
+    ensures { result.page.at ≤ 256 }
 {
     match kind {
         Kind::Sample => out::text(p, b" (a sample is at most FFFF)\n"),
@@ -138,15 +139,15 @@ fn range_wanted(p: Page, kind: Kind) -> Page
 }
 
 // A number of words that the command doesn't take.
-fn form_wanted(p: Page, form: &[u8]) -> Page
-    ensures { result.at ≤ 256 }
+fn form_wanted(p: Output, form: &[u8]) -> Output
+    ensures { result.page.at ≤ 256 }
 {
     out::text(out::text(out::text(p, b" ("), form), b")\n")
 }
 
 // A word with a digit that is none.
-fn no_digit(p: Page, line: &[u8], wrong: Wrong) -> Page
-    ensures { result.at ≤ 256 }
+fn no_digit(p: Output, line: &[u8], wrong: Wrong) -> Output
+    ensures { result.page.at ≤ 256 }
 {
     let kind = wrong.kind;
     let told = word_at(not_a_number(p, kind), line, wrong.start, wrong.end);
@@ -154,8 +155,8 @@ fn no_digit(p: Page, line: &[u8], wrong: Wrong) -> Page
 }
 
 // A number that is too large.
-fn too_large(p: Page, line: &[u8], wrong: Wrong) -> Page
-    ensures { result.at ≤ 256 }
+fn too_large(p: Output, line: &[u8], wrong: Wrong) -> Output
+    ensures { result.page.at ≤ 256 }
 {
     let kind = wrong.kind;
     let told = word_at(not_in_range(p, kind), line, wrong.start, wrong.end);
@@ -163,8 +164,8 @@ fn too_large(p: Page, line: &[u8], wrong: Wrong) -> Page
 }
 
 // What is wrong with a line whose command has this form.
-pub fn refusal(p: Page, line: &[u8], wrong: Wrong, form: &[u8]) -> Page
-    ensures { result.at ≤ 256 }
+pub fn refusal(p: Output, line: &[u8], wrong: Wrong, form: &[u8]) -> Output
+    ensures { result.page.at ≤ 256 }
 {
     let fault = wrong.fault;
     match fault {
@@ -177,16 +178,16 @@ pub fn refusal(p: Page, line: &[u8], wrong: Wrong, form: &[u8]) -> Page
 }
 
 // A line whose first word is no command.
-pub fn unknown(p: Page, word: &[u8]) -> Page
-    ensures { result.at ≤ 256 }
+pub fn unknown(p: Output, word: &[u8]) -> Output
+    ensures { result.page.at ≤ 256 }
 {
     let page = quoted(out::text(p, b"? unknown command: "), word);
     out::text(page, b" (help lists them)\n")
 }
 
 // A part of a line, between semicolons, whose first word names no call.
-fn unknown_call(p: Page, line: &[u8], wrong: Wrong) -> Page
-    ensures { result.at ≤ 256 }
+fn unknown_call(p: Output, line: &[u8], wrong: Wrong) -> Output
+    ensures { result.page.at ≤ 256 }
 {
     let page = word_at(
         out::text(p, b"? unknown call: "),
@@ -198,8 +199,8 @@ fn unknown_call(p: Page, line: &[u8], wrong: Wrong) -> Page
 }
 
 // What is wrong with a call of a list, the form of which is this.
-pub fn refusal_of_call(p: Page, line: &[u8], wrong: Wrong, form: &[u8]) -> Page
-    ensures { result.at ≤ 256 }
+pub fn refusal_of_call(p: Output, line: &[u8], wrong: Wrong, form: &[u8]) -> Output
+    ensures { result.page.at ≤ 256 }
 {
     let fault = wrong.fault;
     match fault {
@@ -213,8 +214,8 @@ pub fn refusal_of_call(p: Page, line: &[u8], wrong: Wrong, form: &[u8]) -> Page
 }
 
 // A line that is too long.
-pub fn too_long(p: Page) -> Page
-    ensures { result.at ≤ 256 }
+pub fn too_long(p: Output) -> Output
+    ensures { result.page.at ≤ 256 }
 {
     out::text(p, b"? line too long (16384 bytes at most)\n")
 }

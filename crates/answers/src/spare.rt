@@ -2,9 +2,9 @@
 ghost use Rattle.std.specs.Prelude.{◌≤◌, ◌<◌};
 
 use crate::out;
+use crate::out::Output;
 use pins::{DIR, IE, KEPT, PINS, What};
 use state::Module;
-use text::page::Page;
 
 // The pins of a keypad's rows come first, those of its columns behind.
 const ROWS: u8 = 8;
@@ -35,8 +35,8 @@ fn level(driven: u32, high: u32, pin: u8) -> u8
 }
 
 // The levels that the pins are driven to, from pin 0 on, as a word behind a blank.
-pub fn levels(p: Page, driven: u32, high: u32) -> Page
-    ensures { result.at ≤ 256 }
+pub fn levels(p: Output, driven: u32, high: u32) -> Output
+    ensures { result.page.at ≤ 256 }
 {
     let mut next = out::put(p, b' ');
     let mut pin: u8 = 0;
@@ -48,7 +48,7 @@ pub fn levels(p: Page, driven: u32, high: u32) -> Page
 }
 
 // The mark of a pin that the keypad uses: a row or a column.
-fn keypad(p: Page, pin: u8) -> Page {
+fn keypad(p: Output, pin: u8) -> Output {
     if pin < ROWS {
         return out::text(p, b"  r");
     }
@@ -56,7 +56,7 @@ fn keypad(p: Page, pin: u8) -> Page {
 }
 
 // The mark of an input: its newest sample; a question mark before the first.
-fn input(p: Page, sampled: bool, high: bool) -> Page {
+fn input(p: Output, sampled: bool, high: bool) -> Output {
     if !sampled {
         return out::text(p, b" <?");
     }
@@ -65,7 +65,7 @@ fn input(p: Page, sampled: bool, high: bool) -> Page {
 
 // The mark of a pin: of the keypad, an output or an input.
 fn part<'a>(
-    p: Page,
+    p: Output,
     kept: &'a [u8; KEPT],
     samples: &'a [bool; PINS],
     sampled: bool,
@@ -73,7 +73,7 @@ fn part<'a>(
     driven: u32,
     high: u32,
     pin: u8,
-) -> Page
+) -> Output
     requires { pin < 19 }
 {
     if pins::is_used(size, pin) {
@@ -87,14 +87,14 @@ fn part<'a>(
 
 // The line of what each pin is.
 fn parts<'a>(
-    p: Page,
+    p: Output,
     kept: &'a [u8; KEPT],
     samples: &'a [bool; PINS],
     sampled: bool,
     size: u8,
     driven: u32,
     high: u32,
-) -> Page {
+) -> Output {
     let mut next = out::text(p, b"\nis   ");
     let mut pin: u8 = 0;
     while pin < PINS as u8 {
@@ -105,8 +105,8 @@ fn parts<'a>(
 }
 
 // The mark of what is so or isn't.
-fn flag(p: Page, set: bool) -> Page
-    ensures { result.at ≤ 256 }
+fn flag(p: Output, set: bool) -> Output
+    ensures { result.page.at ≤ 256 }
 {
     if set {
         return out::text(p, b"  #");
@@ -115,7 +115,7 @@ fn flag(p: Page, set: bool) -> Page
 }
 
 // The line of the edges that are pending.
-fn edges(p: Page, edge: &[bool; PINS]) -> Page {
+fn edges(p: Output, edge: &[bool; PINS]) -> Output {
     let mut next = out::text(p, b"\nedge ");
     let mut pin: u8 = 0;
     while pin < PINS as u8 {
@@ -126,8 +126,8 @@ fn edges(p: Page, edge: &[bool; PINS]) -> Page {
 }
 
 // The line of the edges that are enabled.
-fn enabled(p: Page, kept: &[u8; KEPT]) -> Page
-    ensures { result.at ≤ 256 }
+fn enabled(p: Output, kept: &[u8; KEPT]) -> Output
+    ensures { result.page.at ≤ 256 }
 {
     let mut next = out::text(p, b"\nIE   ");
     let mut pin: u8 = 0;
@@ -139,8 +139,8 @@ fn enabled(p: Page, kept: &[u8; KEPT]) -> Page
 }
 
 // The pins: what each is, with its level or its newest sample; which edges are pending, and which are enabled.
-pub fn drawn(p: Page, m: Module) -> Page
-    ensures { result.at ≤ 256 }
+pub fn drawn(p: Output, m: Module) -> Output
+    ensures { result.page.at ≤ 256 }
 {
     let size = m.size;
     let pins = m.pins;

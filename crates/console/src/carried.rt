@@ -8,17 +8,19 @@ use crate::reply::{on_page, refused, told};
 use crate::session::Session;
 use crate::typed::{LOOK, READ, RESET, WRITE, eight_of, plain};
 use answers::out;
+use answers::out::Output;
 use calls::Done;
 use carry::call::Call;
 use carry::reader;
 use state::Module;
+use std::fs::File;
 use text::list::as_bytes;
-use text::page::{Page, least};
+use text::page::least;
 
 // A packed list that is being shown: up to which place, and whether there is more of it.
 #[derive(Clone, Copy)]
 struct Shown {
-    page: Page,
+    page: Output,
     byte: usize,
     bit: u8,
     first: bool,
@@ -45,7 +47,7 @@ pub(crate) struct Outcome {
 }
 
 // A write as it is typed.
-fn write_shown(p: Page, call: Call) -> Page {
+fn write_shown(p: Output, call: Call) -> Output {
     let values = call.values;
     let mut bytes = [0u8; 32];
     as_bytes(&values, &mut bytes);
@@ -57,13 +59,13 @@ fn write_shown(p: Page, call: Call) -> Page {
 }
 
 // A read as it is typed.
-fn read_shown(p: Page, call: Call) -> Page {
+fn read_shown(p: Output, call: Call) -> Output {
     let page = out::put(out::hex(p, b"read ", (call.first % 256) as u8), b' ');
     out::decimal(page, call.count as u32)
 }
 
 // A call as it is typed.
-fn call_shown(p: Page, call: Call) -> Page {
+fn call_shown(p: Output, call: Call) -> Output {
     let kind = call.kind;
     if kind == LOOK {
         let values = call.values;
@@ -80,7 +82,7 @@ fn call_shown(p: Page, call: Call) -> Page {
 }
 
 // What stands before a call.
-fn parted(p: Page, first: bool) -> Page {
+fn parted(p: Output, first: bool) -> Output {
     if first {
         return out::put(p, b' ');
     }
@@ -103,7 +105,7 @@ fn shown_on(w: Shown, bytes: &[u8]) -> Shown {
 }
 
 // The calls of a packed list, as they are typed.
-fn calls_shown(p: Page, bytes: &[u8]) -> Page {
+fn calls_shown(p: Output, bytes: &[u8]) -> Output {
     let mut w = Shown {
         page: p,
         byte: 0,
@@ -163,7 +165,7 @@ fn contacts_after(contacts: [u16; 8], call: Call) -> [u16; 8] {
 }
 
 // One call more is made, or there is none.
-fn walked_on(w: Walk, bytes: &[u8], fetched: &mut [u8]) -> Walk {
+fn walked_on(w: Walk, bytes: &[u8], fetched: &mut [u8], file: Option<&File>) -> Walk {
     let record = reader::record_at(bytes, w.byte, w.bit);
     let mut next = w;
     if record.end | (record.number != numbers::DONE) {
@@ -177,7 +179,7 @@ fn walked_on(w: Walk, bytes: &[u8], fetched: &mut [u8]) -> Walk {
     let contacts = w.contacts;
     let after = contacts_after(contacts, call);
     next.panel = panel;
-    next.tape = recorded(w.tape, call);
+    next.tape = recorded(w.tape, call, file);
     next.contacts = after;
     next.codes = made.codes;
     next.byte = record.byte;
@@ -186,11 +188,11 @@ fn walked_on(w: Walk, bytes: &[u8], fetched: &mut [u8]) -> Walk {
 }
 
 // The session after the calls of a list, made on a panel that was reset: they are recorded behind a reset, and the contacts are as the last look's samples.
-fn walked(s: Session, bytes: &[u8], fetched: &mut [u8]) -> Session {
+fn walked(s: Session, bytes: &[u8], fetched: &mut [u8], file: Option<&File>) -> Session {
     let contacts = s.contacts;
     let mut w = Walk {
         panel: state::fresh(),
-        tape: recorded(s.tape, plain(RESET, 0, 0)),
+        tape: recorded(s.tape, plain(RESET, 0, 0), file),
         contacts: contacts,
         codes: 0,
         byte: 0,
@@ -199,7 +201,7 @@ fn walked(s: Session, bytes: &[u8], fetched: &mut [u8]) -> Session {
     };
     let mut turns = u64::MAX;
     while turns > 0 && w.more {
-        w = walked_on(w, bytes, fetched);
+        w = walked_on(w, bytes, fetched, file);
         turns -= 1;
     }
     let panel = w.panel;
@@ -214,7 +216,7 @@ fn walked(s: Session, bytes: &[u8], fetched: &mut [u8]) -> Session {
 }
 
 // The panel is reset and makes the calls of a packed list. A list that is none is declined, and nothing is played.
-pub(crate) fn played(s: Session, bytes: &[u8], fetched: &mut [u8]) -> Outcome {
+pub(crate) fn played(s: Session, bytes: &[u8], fetched: &mut [u8], file: Option<&File>) -> Outcome {
     let number = reader::check(bytes);
     if number != numbers::DONE {
         return Outcome {
@@ -223,19 +225,19 @@ pub(crate) fn played(s: Session, bytes: &[u8], fetched: &mut [u8]) -> Outcome {
         };
     }
     Outcome {
-        s: walked(s, bytes, fetched),
+        s: walked(s, bytes, fetched, file),
         number: number,
     }
 }
 
 // The number of a list, which is played if it is one.
-fn play_list(s: Session, bytes: &[u8], fetched: &mut [u8]) -> Session {
-    let p = played(s, bytes, fetched);
+fn play_list(s: Session, bytes: &[u8], fetched: &mut [u8], file: Option<&File>) -> Session {
+    let p = played(s, bytes, fetched, file);
     numbered(p.s, p.number)
 }
 
 // `play HEX..`
-pub(crate) fn play(s: Session, rest: &[u8], fetched: &mut [u8]) -> Session
+pub(crate) fn play(s: Session, rest: &[u8], fetched: &mut [u8], file: Option<&File>) -> Session
     requires { length rest.now ≤ 16384 }
 {
     let mut bytes = [0u8; 8192];
@@ -244,6 +246,6 @@ pub(crate) fn play(s: Session, rest: &[u8], fetched: &mut [u8]) -> Session
     let heard = listed.heard;
     match heard {
         Heard::Wrong(wrong) => refused(s, rest, wrong, b"play HEX.."),
-        Heard::Well => play_list(s, &bytes[0..count], fetched),
+        Heard::Well => play_list(s, &bytes[0..count], fetched, file),
     }
 }

@@ -7,6 +7,7 @@ use crate::typed::look_at;
 use answers::refusal::Kind;
 use calls::Done;
 use keys::{Col, Row};
+use std::fs::File;
 
 // The weight of each bit of a sample.
 const WEIGHTS: [u16; 16] = [
@@ -35,7 +36,7 @@ fn turned(s: Session, row: Row, col: Col, closed: bool) -> Session {
 }
 
 // So many looks, or up to the first that is declined, with the contacts as they are; each is recorded.
-fn looks(s: Session, count: u32) -> Session {
+fn looks(s: Session, count: u32, file: Option<&File>) -> Session {
     let contacts = s.contacts;
     let call = look_at(contacts);
     let mut tape = s.tape;
@@ -46,7 +47,7 @@ fn looks(s: Session, count: u32) -> Session {
         let done = calls::look(panel, &contacts);
         panel = done.after;
         number = done.number;
-        tape = recorded(tape, call);
+        tape = recorded(tape, call, file);
         i = i + 1;
     }
     let mut next = s;
@@ -61,41 +62,44 @@ fn looks(s: Session, count: u32) -> Session {
 }
 
 // As many looks as make the panel believe a contact.
-fn believed(s: Session) -> Session {
+fn believed(s: Session, file: Option<&File>) -> Session {
     let m = s.panel;
     let bounce = m.bounce;
     if bounce < 1 {
-        return looks(s, 1);
+        return looks(s, 1, file);
     }
-    looks(s, bounce as u32)
+    looks(s, bounce as u32, file)
 }
 
 // A finger closes or opens the contact of a row and a column.
-fn finger(s: Session, rest: &[u8], closed: bool, form: &[u8]) -> Session {
+fn finger(s: Session, rest: &[u8], closed: bool, form: &[u8], file: Option<&File>) -> Session {
     let pair = pair_of(rest, Kind::Row, Kind::Col);
     match pair {
         Pair::Wrong(wrong) => refused(s, rest, wrong, form),
         Pair::Numbers(row, col) => {
-            believed(turned(s, Row((row % 256) as u8), Col((col % 256) as u8), closed))
+            believed(
+                turned(s, Row((row % 256) as u8), Col((col % 256) as u8), closed),
+                file,
+            )
         }
     }
 }
 
 // `press ROW COL`
-pub(crate) fn press(s: Session, rest: &[u8]) -> Session {
-    finger(s, rest, true, b"press ROW COL")
+pub(crate) fn press(s: Session, rest: &[u8], file: Option<&File>) -> Session {
+    finger(s, rest, true, b"press ROW COL", file)
 }
 
 // `release ROW COL`
-pub(crate) fn release(s: Session, rest: &[u8]) -> Session {
-    finger(s, rest, false, b"release ROW COL")
+pub(crate) fn release(s: Session, rest: &[u8], file: Option<&File>) -> Session {
+    finger(s, rest, false, b"release ROW COL", file)
 }
 
 // `wait N`
-pub(crate) fn wait(s: Session, rest: &[u8]) -> Session {
+pub(crate) fn wait(s: Session, rest: &[u8], file: Option<&File>) -> Session {
     let pair = pair_with(0, rest, 0, Kind::Looks);
     match pair {
         Pair::Wrong(wrong) => refused(s, rest, wrong, b"wait N"),
-        Pair::Numbers(_, count) => looks(s, count),
+        Pair::Numbers(_, count) => looks(s, count, file),
     }
 }

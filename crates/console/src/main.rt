@@ -19,8 +19,12 @@ mod typed;
 ghost use Rattle.std.specs.Prelude.{◌≤◌, ◌<◌, length};
 
 use answers::out;
-use libc::STDIN_FILENO;
+use answers::out::Output;
 use session::Session;
+use start::Beginning;
+use std::fs::File;
+use std::io::Read;
+use std::rt::Stdin;
 use text::lines::{NEWLINE, newline_from};
 use text::page;
 
@@ -32,7 +36,7 @@ struct Received {
 }
 
 // Answers every line that has ended, up to a `quit`, and holds the place where the next one begins.
-fn feed(s: Session, input: &[u8], fetched: &mut [u8]) -> Session
+fn feed(s: Session, input: &[u8], fetched: &mut [u8], file: Option<&File>) -> Session
     ensures { result.held ≤ length input.now }
 {
     let mut list = [0u16; 8192];
@@ -42,7 +46,7 @@ fn feed(s: Session, input: &[u8], fetched: &mut [u8]) -> Session
     while end < input.len() && next.on {
         let start = i;
         i = end + 1;
-        next = perform::perform(next, &input[start..end], &mut list, fetched);
+        next = perform::perform(next, &input[start..end], &mut list, fetched, file);
         end = newline_from(input, i);
     }
     next.held = i;
@@ -67,18 +71,18 @@ fn keep(input: &mut [u8], from: usize, end: usize) -> usize
 fn written(s: Session, more: bool) -> Session {
     let page = out::written(s.page);
     let mut next = s;
-    next.on = s.on & more & page.ok;
+    next.on = s.on & more & page.page.ok;
     next.page = page;
     next
 }
 
 // Waits for input. At its end a newline comes, since a final line without one counts.
-fn receive(input: &mut [u8]) -> Received
+fn receive(from: Stdin, input: &mut [u8]) -> Received
     requires { 1 ≤ length input.old }
     ensures { result.count ≤ length input.new }
 {
-    let got = libc::read(STDIN_FILENO, input);
-    let count = io::count(got, input);
+    let mut source = from;
+    let count = source.read(input).unwrap_or(0);
     if count < 1 {
         input[0] = NEWLINE;
         return Received {
@@ -93,50 +97,67 @@ fn receive(input: &mut [u8]) -> Received
 }
 
 // Answers every line of the input up to a place that has ended, and keeps the one that has not.
-fn answer(s: Session, input: &mut [u8], end: usize, fetched: &mut [u8]) -> Session
+fn answer(
+    s: Session,
+    input: &mut [u8],
+    end: usize,
+    fetched: &mut [u8],
+    file: Option<&File>,
+) -> Session
     requires { end ≤ length input.old }
     ensures { result.held ≤ 16385 }
 {
-    let mut next = feed(s, &input[0..end], fetched);
+    let mut next = feed(s, &input[0..end], fetched, file);
     let from = next.held;
     next.held = keep(input, from, end);
     next
 }
 
 // Waits for input, and answers it.
-fn turn(s: Session, input: &mut [u8], fetched: &mut [u8]) -> Session
+fn turn(
+    s: Session,
+    from: Stdin,
+    input: &mut [u8],
+    fetched: &mut [u8],
+    file: Option<&File>,
+) -> Session
     requires { (s.held ≤ 16385) × (65536 ≤ length input.old) }
     ensures { result.held ≤ 16385 }
 {
     let held = s.held;
     let n = input.len();
-    let received = receive(&mut input[held..n]);
-    let next = answer(s, input, held + received.count, fetched);
+    let received = receive(from, &mut input[held..n]);
+    let next = answer(s, input, held + received.count, fetched, file);
     let mut last = written(next, received.more);
     last.held = next.held;
     last
 }
 
-fn main() {
-    let mut input = io::large_buffer();
+fn main(rt: HostRuntime) {
+    let mut input = [0u8; 65536];
     let mut fetched = [0u8; made::KEPT];
-    let mut s = start::begun(
+    let Beginning { s: first, file } = start::begun(
+        &rt,
         Session {
             panel: state::fresh(),
             contacts: [0; 8],
             codes: 0,
-            page: page::empty(),
+            page: Output {
+                page: page::empty(),
+                to: rt.stdout(),
+            },
             tape: recorder::idle(),
             held: 0,
             on: true,
         },
         &mut fetched,
     );
+    let mut s = first;
     s.held = 0;
     let mut turns = u64::MAX;
     while turns > 0 && s.on {
-        s = turn(s, &mut input, &mut fetched);
+        s = turn(s, rt.stdin(), &mut input, &mut fetched, file.as_ref());
         turns -= 1;
     }
-    recorder::ended(s);
+    recorder::ended(s, file.as_ref());
 }

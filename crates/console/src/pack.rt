@@ -5,13 +5,14 @@ use crate::commands::{Heard, number_at, of_word};
 use crate::reply::{bytes_read, on_page, refused};
 use crate::session::Session;
 use crate::typed::{NONE, Typed, call_of, kind_of, refused_call};
+use answers::out::Output;
 use answers::refusal::{Kind, Wrong};
 use calls::Done;
 use carry::call::{Call, NUMBERS};
 use carry::writer;
 use text::lines::next_from;
 use text::number::{Fault, Number};
-use text::page::{Page, least};
+use text::page::least;
 use text::word::{is_end, word_from};
 
 const SEMICOLON: u8 = b';';
@@ -22,7 +23,7 @@ const LONGEST: usize = 16384;
 // The calls of a line: how many, and whether nothing is wrong with them.
 #[derive(Clone, Copy)]
 struct Gathered {
-    page: Page,
+    page: Output,
     count: usize,
     well: bool,
 }
@@ -119,7 +120,7 @@ fn with_part(g: Gathered, part: &[u8], list: &mut [u16], calls: &mut [u16]) -> G
 }
 
 // The calls of a line from a place on, up to the first that is wrong.
-fn gather(page: Page, line: &[u8], from: usize, list: &mut [u16], calls: &mut [u16]) -> Gathered
+fn gather(page: Output, line: &[u8], from: usize, list: &mut [u16], calls: &mut [u16]) -> Gathered
     requires { (from ≤ length line.now) × (length line.now ≤ 16384) × (114695 ≡ length calls.old) }
     ensures { result.count ≤ 3277 }
 {

@@ -13,6 +13,7 @@ use answers::{draw, help};
 use calls::Done;
 use carry::call::Call;
 use keys::{Col, Row};
+use std::fs::File;
 use text::lines::without_return;
 use text::page::least;
 use text::word::{is_same, word_from};
@@ -40,11 +41,11 @@ fn took(s: Session, bytes: [u8; 33], count: usize, done: Done) -> Session {
 }
 
 // Makes a call, records it and answers it.
-fn answered(s: Session, call: Call, fetched: &mut [u8]) -> Session {
+fn answered(s: Session, call: Call, fetched: &mut [u8], file: Option<&File>) -> Session {
     let made = make(s.panel, call, fetched, s.codes);
     let done = made.done;
     let kind = call.kind;
-    let mut next = noted(s, call, done.number);
+    let mut next = noted(s, call, done.number, file);
     next.codes = made.codes;
     if kind == LOOK {
         let samples = call.values;
@@ -58,13 +59,20 @@ fn answered(s: Session, call: Call, fetched: &mut [u8]) -> Session {
 }
 
 // `look S0 S1 ..`, `write AA B0 B1 ..`, `read AA COUNT`, `reset`
-fn called(s: Session, kind: u16, rest: &[u8], list: &mut [u16], fetched: &mut [u8]) -> Session {
+fn called(
+    s: Session,
+    kind: u16,
+    rest: &[u8],
+    list: &mut [u16],
+    fetched: &mut [u8],
+    file: Option<&File>,
+) -> Session {
     let typed = call_of(kind, rest, list);
     let call = typed.call;
     let heard = typed.heard;
     match heard {
         Heard::Wrong(wrong) => on_page(s, refused_call(s.page, kind, rest, wrong)),
-        Heard::Well => answered(s, call, fetched),
+        Heard::Well => answered(s, call, fetched, file),
     }
 }
 
@@ -170,21 +178,28 @@ fn of_panel(s: Session, word: &[u8], rest: &[u8]) -> Session {
 }
 
 // The commands of fingers.
-fn of_fingers(s: Session, word: &[u8], rest: &[u8]) -> Session {
+fn of_fingers(s: Session, word: &[u8], rest: &[u8], file: Option<&File>) -> Session {
     if is_same(word, b"press") {
-        return fingers::press(s, rest);
+        return fingers::press(s, rest, file);
     }
     if is_same(word, b"release") {
-        return fingers::release(s, rest);
+        return fingers::release(s, rest, file);
     }
     if is_same(word, b"wait") {
-        return fingers::wait(s, rest);
+        return fingers::wait(s, rest, file);
     }
     of_panel(s, word, rest)
 }
 
 // The commands of undo groups.
-fn of_groups(s: Session, word: &[u8], rest: &[u8], list: &mut [u16], fetched: &[u8]) -> Session {
+fn of_groups(
+    s: Session,
+    word: &[u8],
+    rest: &[u8],
+    list: &mut [u16],
+    fetched: &[u8],
+    file: Option<&File>,
+) -> Session {
     if is_same(word, b"group") {
         return groups::group(s, rest, list);
     }
@@ -197,11 +212,18 @@ fn of_groups(s: Session, word: &[u8], rest: &[u8], list: &mut [u16], fetched: &[
     if is_same(word, b"undo") {
         return groups::undo(s, rest, list, fetched);
     }
-    of_fingers(s, word, rest)
+    of_fingers(s, word, rest, file)
 }
 
 // The commands of packed lists.
-fn of_lists(s: Session, word: &[u8], rest: &[u8], list: &mut [u16], fetched: &mut [u8]) -> Session
+fn of_lists(
+    s: Session,
+    word: &[u8],
+    rest: &[u8],
+    list: &mut [u16],
+    fetched: &mut [u8],
+    file: Option<&File>,
+) -> Session
     requires { length rest.now ≤ 16384 }
 {
     if is_same(word, b"pack") {
@@ -211,28 +233,41 @@ fn of_lists(s: Session, word: &[u8], rest: &[u8], list: &mut [u16], fetched: &mu
         return carried::unpack(s, rest);
     }
     if is_same(word, b"play") {
-        return carried::play(s, rest, fetched);
+        return carried::play(s, rest, fetched, file);
     }
-    of_groups(s, word, rest, list, fetched)
+    of_groups(s, word, rest, list, fetched, file)
 }
 
 // Does the command that a word names, with the words behind it, and answers it.
 // Each group of commands has a function, since the check of many arms in one grows with their square.
-fn named(s: Session, word: &[u8], rest: &[u8], list: &mut [u16], fetched: &mut [u8]) -> Session
+fn named(
+    s: Session,
+    word: &[u8],
+    rest: &[u8],
+    list: &mut [u16],
+    fetched: &mut [u8],
+    file: Option<&File>,
+) -> Session
     requires { length rest.now ≤ 16384 }
 {
     let kind = kind_of(word);
     if kind != NONE {
-        return called(s, kind, rest, list, fetched);
+        return called(s, kind, rest, list, fetched, file);
     }
     if is_same(word, b"looks") {
-        return block::looks(s, rest, list);
+        return block::looks(s, rest, list, file);
     }
-    of_lists(s, word, rest, list, fetched)
+    of_lists(s, word, rest, list, fetched, file)
 }
 
 // Does the command of a line that is not too long. A blank line and a comment ask for nothing.
-fn asked(s: Session, line: &[u8], list: &mut [u16], fetched: &mut [u8]) -> Session
+fn asked(
+    s: Session,
+    line: &[u8],
+    list: &mut [u16],
+    fetched: &mut [u8],
+    file: Option<&File>,
+) -> Session
     requires { length line.now ≤ 16384 }
 {
     let w = word_from(line, 0);
@@ -245,14 +280,20 @@ fn asked(s: Session, line: &[u8], list: &mut [u16], fetched: &mut [u8]) -> Sessi
         return s;
     }
     let n = line.len();
-    named(s, &line[start..end], &line[end..n], list, fetched)
+    named(s, &line[start..end], &line[end..n], list, fetched, file)
 }
 
-// Does what a line asks for and answers it; its numbers go to the list, and the codes that it fetches to those fetched.
-pub(crate) fn perform(s: Session, line: &[u8], list: &mut [u16], fetched: &mut [u8]) -> Session {
+// Does what a line asks for and answers it; its numbers go to the list, the codes that it fetches to those fetched, and what is recorded of it to the file, if there is one.
+pub(crate) fn perform(
+    s: Session,
+    line: &[u8],
+    list: &mut [u16],
+    fetched: &mut [u8],
+    file: Option<&File>,
+) -> Session {
     if LONGEST < line.len() {
         return on_page(s, too_long(s.page));
     }
     let n = without_return(line);
-    heeded(asked(s, &line[0..n], list, fetched))
+    heeded(asked(s, &line[0..n], list, fetched, file))
 }

@@ -4,6 +4,8 @@ use crate::typed::{READ, plain};
 use answers::{files, out};
 use carry::call::Call;
 use carry::writer;
+use std::fs::File;
+use std::io::Write;
 use text::page::least;
 
 // The bytes of the tape.
@@ -19,7 +21,6 @@ pub(crate) struct Tape {
     // the place behind the last record, in bytes and bits more
     pub byte: usize,
     pub bit: u8,
-    pub file: i32,
     // is the session recorded?
     pub on: bool,
     // could something not be written, and is that not told yet?
@@ -32,16 +33,14 @@ pub(crate) fn idle() -> Tape {
         bytes: [0; 256],
         byte: 0,
         bit: 0,
-        file: 0,
         on: false,
         failed: false,
     }
 }
 
-// A recording that begins, to a file.
-pub(crate) fn recording(file: i32) -> Tape {
+// A recording that begins.
+pub(crate) fn recording() -> Tape {
     let mut tape = idle();
-    tape.file = file;
     tape.on = true;
     tape
 }
@@ -54,19 +53,22 @@ fn after(tape: Tape, well: bool) -> Tape {
     next
 }
 
-// Writes the first bytes of a list to a file.
-fn sent(file: i32, bytes: &[u8], n: usize) -> bool {
+// Writes the first bytes of a list to a file, if there is one.
+fn sent(file: Option<&File>, bytes: &[u8], n: usize) -> bool {
+    let Some(mut to) = file else {
+        return false;
+    };
     if n <= bytes.len() {
-        return io::write_all(file, &bytes[0..n]);
+        return to.write_all(&bytes[0..n]).is_ok();
     }
     false
 }
 
 // Writes out the whole bytes; the one that is begun moves to the front.
-fn rewound(tape: Tape) -> Tape {
+fn rewound(tape: Tape, file: Option<&File>) -> Tape {
     let bytes = tape.bytes;
     let n = least(tape.byte, LENGTH - 1);
-    let mut next = after(tape, sent(tape.file, &bytes, n));
+    let mut next = after(tape, sent(file, &bytes, n));
     let begun = bytes[n];
     next.bytes = [0; 256];
     next.bytes[0] = begun;
@@ -75,7 +77,7 @@ fn rewound(tape: Tape) -> Tape {
 }
 
 // The tape with one call more, if it fits in a list.
-pub(crate) fn recorded(tape: Tape, call: Call) -> Tape {
+pub(crate) fn recorded(tape: Tape, call: Call, file: Option<&File>) -> Tape {
     if !tape.on {
         return tape;
     }
@@ -91,7 +93,7 @@ pub(crate) fn recorded(tape: Tape, call: Call) -> Tape {
     if added.byte < FULL {
         return next;
     }
-    rewound(next)
+    rewound(next, file)
 }
 
 // The call that a list has for one that gave this number: itself, or a read of one byte for an access that woke the panel and has no record, being of 0 or more than 32 bytes.
@@ -110,23 +112,22 @@ fn carried_as(call: Call, number: u8) -> Call {
 }
 
 // The session with one call more on its tape, which gave this number.
-pub(crate) fn noted(s: Session, call: Call, number: u8) -> Session {
+pub(crate) fn noted(s: Session, call: Call, number: u8, file: Option<&File>) -> Session {
     let mut next = s;
-    next.tape = recorded(s.tape, carried_as(call, number));
+    next.tape = recorded(s.tape, carried_as(call, number), file);
     next
 }
 
 // The tape at the session's end: the byte that is begun is written out too, and padded with 0.
-fn finished(tape: Tape) -> Tape {
+fn finished(tape: Tape, file: Option<&File>) -> Tape {
     if !tape.on {
         return tape;
     }
     let bytes = tape.bytes;
     let begun = (tape.bit as usize + 7) / 8;
     let n = least(least(tape.byte, LENGTH - 1) + begun, LENGTH);
-    let mut next = after(tape, sent(tape.file, &bytes, n));
+    let mut next = after(tape, sent(file, &bytes, n));
     next.on = false;
-    libc::close(tape.file);
     next
 }
 
@@ -144,9 +145,9 @@ pub(crate) fn heeded(s: Session) -> Session {
 }
 
 // The end of the session: all that is recorded and answered is written out.
-pub(crate) fn ended(s: Session) -> Session {
+pub(crate) fn ended(s: Session, file: Option<&File>) -> Session {
     let mut next = s;
-    next.tape = finished(s.tape);
+    next.tape = finished(s.tape, file);
     let told = heeded(next);
     let mut last = told;
     last.page = out::written(told.page);

@@ -1,13 +1,14 @@
 // The lines that answer a command.
 use crate::session::Session;
+use answers::out::Output;
 use answers::refusal::{Wrong, refusal};
 use answers::{out, spare};
 use calls::{Answered, Block, Done, Driven};
 use state::Module;
-use text::page::{Page, least};
+use text::page::least;
 
 // The session with a page.
-pub(crate) fn on_page(s: Session, page: Page) -> Session {
+pub(crate) fn on_page(s: Session, page: Output) -> Session {
     let mut next = s;
     next.page = page;
     next
@@ -19,7 +20,7 @@ pub(crate) fn refused(s: Session, line: &[u8], wrong: Wrong, form: &[u8]) -> Ses
 }
 
 // The session with a panel and a page.
-fn with(s: Session, panel: Module, page: Page) -> Session {
+fn with(s: Session, panel: Module, page: Output) -> Session {
     let mut next = s;
     next.panel = panel;
     next.page = page;

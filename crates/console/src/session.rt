@@ -1,7 +1,7 @@
 // What is kept from one line to the next.
 use crate::recorder::Tape;
+use answers::out::Output;
 use state::Module;
-use text::page::Page;
 
 #[derive(Clone, Copy)]
 pub(crate) struct Session {
@@ -11,7 +11,7 @@ pub(crate) struct Session {
     // how many codes were fetched since the last restart; one more than are kept if there were more
     pub codes: usize,
     // the answers that are not written out yet
-    pub page: Page,
+    pub page: Output,
     // the recording
     pub tape: Tape,
     // where the line that has not ended begins in the input, and then how many bytes of it are kept

@@ -3,10 +3,11 @@ ghost use Rattle.std.specs.Prelude.{◌≤◌, ◌+◌, length};
 
 use crate::commands;
 use crate::commands::{Heard, Pair, list_of};
+use answers::out::Output;
 use answers::refusal::{Kind, Wrong, refusal_of_call};
 use carry::call::Call;
 use text::list::copied;
-use text::page::{Page, least};
+use text::page::least;
 use text::word::is_same;
 
 // The kinds of calls, as in a list of calls.
@@ -181,8 +182,8 @@ pub(crate) fn call_of(kind: u16, rest: &[u8], list: &mut [u16]) -> Typed {
 }
 
 // The line that tells what is wrong with a call of a kind.
-pub(crate) fn refused_call(p: Page, kind: u16, line: &[u8], wrong: Wrong) -> Page
-    ensures { result.at ≤ 256 }
+pub(crate) fn refused_call(p: Output, kind: u16, line: &[u8], wrong: Wrong) -> Output
+    ensures { result.page.at ≤ 256 }
 {
     if kind == LOOK {
         return refusal_of_call(p, line, wrong, b"look S0 S1 ..");
