@@ -1,0 +1,9 @@
+-- `spare::parts` is safe: the loop goes on to the last pin.
+use Rattle.std.proofs.Common.{◌≤◌, ◌-◌}
+use Rattle.answers.proofs.spare.parts.Given as goal
+
+abbrev pub invariant-loop-pin : goal.invariant-loop-pin
+invariant-loop-pin l = l.pin ≤ 19
+
+abbrev pub decreases-loop-pin : goal.decreases-loop-pin
+decreases-loop-pin l = 19 - l.pin
