@@ -62,9 +62,9 @@ foreign_to() {
 # built_of CRATE: what rt builds of it.
 built_of() {
     if [ -f "crates/$1/src/main.rt" ]; then
-        echo "target/obj/$1.o"
+        echo "crates/$1/out/$1.o"
     else
-        echo "target/staticlib/lib$1.a"
+        echo "crates/$1/out/lib$1.a"
     fi
 }
 
@@ -72,7 +72,7 @@ built_of() {
 is_kept() {
     local newer
     [ -s "$made/$1.x86.ll" ] && [ -s "$made/$1.sum" ] || return 1
-    newer=$(find crates crates.txt firmware/extract -newer "$made/$1.x86.ll") || failed "find ended with status $?"
+    newer=$(find crates/*/src crates/*/specs crates/*/proofs crates.txt firmware/extract -newer "$made/$1.x86.ll") || failed "find ended with status $?"
     [ -z "$newer" ] && sha256sum --check --status "$made/$1.sum" 2>"$made/log"
 }
 
@@ -110,13 +110,13 @@ on() {
 compile_module() {
     local from=$1 level=$2 object=$3
     if [ "$level" = -Os ]; then
-        must_write "$made/small.ll" sed 's/^attributes #0 = { nounwind }/attributes #0 = { nounwind optsize }/' "$from"
+        must_write "$made/small.ll" sed 's/^\(attributes #[0-9]* = { .*\)nounwind }$/\1nounwind optsize }/' "$from"
         ! cmp -s "$from" "$made/small.ll" || failed "$from has no attributes to ask for small code in"
         from=$made/small.ll
     fi
     must rm -f "$object"
     "$clang" --target="$triple" "${cpu[@]}" "$level" -ffunction-sections -fdata-sections -mllvm -trap-unreachable -mllvm -no-trap-after-noreturn \
-        --no-default-config -fno-crash-diagnostics -Werror -Wno-override-module -c -x ir "$from" -o "$object" >"$made/log" 2>&1 || failed "clang, over $from, ended with status $?"
+        -mllvm -disable-machine-licm -mllvm -disable-postra-machine-licm -mllvm -sink-common-insts=false --no-default-config -fno-crash-diagnostics -Werror -Wno-override-module -c -x ir "$from" -o "$object" >"$made/log" 2>&1 || failed "clang, over $from, ended with status $?"
     [ -s "$object" ] || failed "clang, over $from, wrote nothing"
 }
 

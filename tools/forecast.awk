@@ -15,7 +15,7 @@ function visit(name,    used, n, i) {
 
 NR == FNR {
     sub(/#.*/, "")
-    if (match($0, /^[ \t]*[A-Za-z0-9_]+[ \t]*:/)) { split($0, part, ":"); gsub(/[ \t]/, "", part[1]); uses[part[1]] = part[2] }
+    if (split($0, part, ":") == 2) { split(part[1], word, " "); uses[word[1]] = part[2] }
     next
 }
 $1 == "proved" { proved[$2] = 1 }

@@ -1,4 +1,4 @@
-# The console compiled for an Arm machine, from the LLVM module of the proved program: no emulator has to run it. Sourced by panel and by firmware/native.
+# The console compiled for an Arm machine, by the toolchain that proved it: no emulator has to run it. Sourced by panel and by firmware/native.
 # shellcheck shell=sh disable=SC2154
 
 native=$root/target/arm/console
@@ -11,7 +11,7 @@ old() {
 }
 
 # Is the program for Arm missing, or older than the proved one or than what it is made with?
-old_native() { old "$native" "$program" "$root/firmware/linux" "$root/firmware/native" "$root/firmware/extract" "$root/firmware/retarget.sed"; }
+old_native() { old "$native" "$program" "$root/firmware/linux" "$root/firmware/native"; }
 
 # On an Arm machine the program for it is made, if it is missing or old. If it can't be, one sentence says so.
 # $native is empty then, and on other machines: the proved program is run as it is.

@@ -1,7 +1,7 @@
 # Gets the console ready: rt says whether it is proved as its sources stand, and proves and builds what is missing. Sourced by panel.
 # shellcheck shell=sh disable=SC2154
 
-newline='
+out=$root/crates/console/out newline='
 '
 
 # full WORDS: do a tool's words say that a disk is full?
@@ -20,14 +20,14 @@ shut() {
     esac
 }
 
-no_disk() { failed "the disk is full: proving and building the console takes 320 MB in $root/target and 1 MB in ${TMPDIR:-/tmp}"; }
-no_target() { failed "$root/target can't be written to, and the console is proved and built there: clone to a place that can be"; }
+no_disk() { failed "the disk is full: proving and building the console takes 2 GB in $root/crates/*/out and 1 MB in ${TMPDIR:-/tmp}"; }
+no_out() { failed "$root/crates/*/out can't be written to, and the console is proved and built there: clone to a place that can be"; }
 no_temporary() { failed "no temporary folder can be made in ${TMPDIR:-/tmp}: set TMPDIR to a folder that can be written to"; }
 
 # blame WORDS: ends with one sentence if rt's words tell of a disk or a folder that can't be written.
 blame() {
     ! full "$1" || no_disk
-    ! shut "$1" || no_target
+    ! shut "$1" || no_out
 }
 
 # write_some FILE: writes a little to a new file and removes it, and says what went wrong.
@@ -40,9 +40,9 @@ write_some() {
 
 # Ends with one sentence if rt has no place to work in.
 see_room() {
-    if ! said=$(LC_ALL=C mkdir -p "$root/target/log" "$root/target/stamp" 2>&1 && write_some "$root/target/log/room"); then
+    if ! said=$(LC_ALL=C mkdir -p "$out" 2>&1 && write_some "$out/room"); then
         ! full "$said" || no_disk
-        no_target
+        no_out
     fi
     room=$(mktemp -d 2>/dev/null) || no_temporary
     said=$(write_some "$room/room")
@@ -63,12 +63,14 @@ lock() {
     flock 9 || failed "the lock on $root/crates.txt can't be had"
 }
 
-# The crates that rt has proved, `proved NAME`, and the files that changed since all was ready, `changed ./NAME/..`.
+# The crates that rt has proved and built, `proved NAME`, and the files that changed since all was ready, `changed ./NAME/..`.
 proved_before() {
-    for stamp in "$root"/target/stamp/*; do
-        echo "proved ${stamp##*/}"
+    for stamp in "$root"/crates/*/out/rlib/stamp; do
+        crate=${stamp%/out/rlib/stamp}
+        echo "proved ${crate##*/}"
     done
-    (cd "$root/crates" && find . -newer ../target/ready -exec printf 'changed %s\n' {} + 2>/dev/null)
+    [ ! -e "$program.stamp" ] || [ ! -x "$program" ] || echo "proved console"
+    (cd "$root/crates" && find ./*/src ./*/specs ./*/proofs ./*/std* -newer "$out/ready" -exec printf 'changed %s\n' {} + 2>/dev/null)
 }
 
 # Says how many crates have to be proved, as far as that is known before rt has looked.
@@ -77,36 +79,36 @@ forecast() {
     needed=${1% *} total=${1#* }
     [ "$needed" -gt 0 ] || return
     if [ "$needed" -eq "$total" ]; then
-        say "the console's $total crates have to be proved and built, this once: a few minutes"
+        say "the console's $total crates have to be proved and built, this once: some minutes"
     else
         say "up to $needed of the console's $total crates have to be proved"
     fi
 }
 
-# tell_proved LINE: tells of a crate that rt has proved now.
+# Tells of the crate that rt has proved now.
 tell_proved() {
-    name=${1#rt: } took=${1##*(}
     proved=$((proved + 1))
     [ "$proved" -le "$needed" ] || needed=$proved
-    say "${name%% *} proved in ${took%)} ($proved of $needed)"
+    say "$crate proved in $(($(date +%s) - since)) s ($proved of $needed)"
 }
 
-# Reads what rt says, tells of each crate that it proves, and keeps in $faults what it says of those that it doesn't, in $trouble what couldn't be written.
+# Reads what rt says, tells of each crate that it proves, and keeps in $section what it says of one that it doesn't, in $trouble what couldn't be written.
+# rt begins a crate with the jobs that it chose for it, and ends one that is proved with the line of its verdict.
 hear() {
-    section='' faults='' trouble='' proved=0 status=2
+    section='' trouble='' proved=0 status=2 same=1 crate='' since=$began
     while IFS= read -r line; do
         case $line in
-        'fn '*': proved' | 'library '*': modules '* | 'logic '* | 'logic='* | 'axioms '* | 'linked '* | 'note: no function '*) ;;
-        'rt: '*' proved (unchanged '* | 'rt: '*' NOT PROVED: its dependency '*) section='' ;;
-        'rt: '*' proved ('*' s)')
-            tell_proved "$line"
+        'rt: chose --jobs '*' for '*) crate=${line##* } since=$(date +%s) ;;
+        'logic=proved '*)
+            tell_proved
             section=''
             ;;
-        'rt: '*' NOT PROVED'* | 'rt: '*' FAILED ('*)
-            faults=$faults$section$line$newline
-            section=''
-            ;;
+        'rt: nothing has changed '* | 'rt: running out/console;'*) section='' ;;
+        'rt: '*': begins with what a check kept '* | 'rt: '*'waiting for '* | 'so far: '*) ;;
+        'fn '*': proved' | 'struct '*': proved' | 'enum '*': proved' | 'impl '*': proved' | 'const '*': proved' | 'static '*': proved') ;;
+        'logic '* | 'logic='* | 'only='* | 'statements '* | 'library '* | 'crate '*': modules '* | 'axioms '* | 'linked '* | 'rattle build: nothing was built'*) ;;
         'status '*) status=${line#status } ;;
+        'output as it must be') same=0 ;;
         *)
             section=$section$line$newline
             ! full "$line" && ! shut "$line" || trouble=$trouble$line$newline
@@ -115,9 +117,9 @@ hear() {
     done
 }
 
-# The heads of rt's messages: the first lines that aren't set in, each cut, and the verdicts.
+# The heads of rt's messages: the first lines that aren't set in, each cut.
 heads() {
-    awk '/^rt: .* (NOT PROVED|FAILED) / || !/^ / && ++n <= 10 { print (length($0) > 300 ? substr($0, 1, 300) " .." : $0) }'
+    awk '!/^ / && ++n <= 10 { print (length($0) > 300 ? substr($0, 1, 300) " .." : $0) }'
 }
 
 # Ends with why the console can't be run, in rt's own words; no program is left behind.
@@ -125,18 +127,27 @@ not_ready() {
     rm -f "$program"
     blame "$trouble"
     see_room
-    printf '%s' "${faults:-$section}" | heads >&2
-    failed "the console is not proved, so it isn't run; target/log/NAME.out has all that rt says of a crate"
+    printf '%s' "$section" | heads >&2
+    [ "$status" -ne 0 ] || failed "the console is proved, but on crates/console/stdin it doesn't write what crates/console/stdout has, so it isn't run"
+    failed "the console is not proved, so it isn't run: rt run in crates/console says more"
 }
 
-# Hears rt to its end: 0 if all is proved and the program is there.
+# Hears rt to its end: 0 if all is proved, and the program is there and writes what it must.
 judge() {
     hear
-    if [ "$status" -ne 0 ] || [ -n "$trouble" ] || [ ! -x "$program" ]; then
+    if [ "$status" -ne 0 ] || [ "$same" -ne 0 ] || [ -n "$trouble" ] || [ ! -x "$program" ]; then
         not_ready
     fi
-    touch "$root/target/ready"
-    [ "$proved" -eq 0 ] || say "proved and built in $(($(date +%s) - began)) s; target/ takes $(du -sk "$root/target" | awk '{ print int($1 / 1024) }') MB"
+    touch "$out/ready"
+    [ "$proved" -eq 0 ] || say "proved and built in $(($(date +%s) - began)) s; crates/*/out take $(du -skc "$root"/crates/*/out | awk 'END { print int($1 / 1024) }') MB"
+}
+
+# ask_rt: rt proves and builds what is missing, and runs the console on its own input. What rt says comes out, behind it its status, and whether the output is the one that is stored.
+ask_rt() {
+    cd "$root/crates/console" || return
+    {
+        { LC_ALL=C rt run <stdin 2>&3 && echo 'status 0' >&3 || echo "status $?" >&3; } | cmp -s - stdout && echo 'output as it must be' >&3
+    } 3>&1
 }
 
 # Asks rt whether the console is proved as its sources stand; what is missing is proved and built. A program that is gone is built again.
@@ -145,12 +156,8 @@ get_ready() {
     began=$(date +%s)
     lock
     see_room
-    [ -x "$program" ] || rm -f "$root/target/stamp/console"
     forecast
-    (
-        cd "$root" && LC_ALL=C rt check console </dev/null 2>&1
-        echo "status $?"
-    ) | judge || exit 1
+    ask_rt | judge || exit 1
     get_native
     exec 9<&-
 }

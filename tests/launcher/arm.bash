@@ -1,4 +1,4 @@
-# A machine that only seems to be an Arm one, for what asks `uname`, which says aarch64; the toolchain's folder for aarch64 has this machine's own programs.
+# A machine that only seems to be an Arm one, for what asks `uname`, which says aarch64; the toolchain's folder for it has this machine's own programs.
 # What its linker makes for aarch64 runs under qemu-aarch64, so the launcher needs no word for it. Sourced by run and by .ci/on-arm, which have a function `failed`.
 # shellcheck shell=bash
 
@@ -38,36 +38,35 @@ put_uname() {
 	PROGRAM
 }
 
-# put_linker FOLDER REAL: a linker there; in place of the program that it makes for aarch64 stands one that runs it under qemu.
+# put_linker FILE REAL: a linker there; in place of the program that it makes for aarch64 stands one that runs it under qemu.
 put_linker() {
-    put_program "$1/ld.lld" <<-PROGRAM
+    put_program "$1" <<-PROGRAM
 	"$2" "\$@" || exit
 	while [ "\$1" != -o ]; do shift; done
 	mv "\$2" "\$2.elf" && printf '#!/bin/sh\nexec qemu-aarch64 "%s" "\$@"\n' "\$2.elf" >"\$2" && chmod +x "\$2"
 	PROGRAM
 }
 
-# seem_arm FOLDER: the folder is a toolchain's home for such a machine, with `uname` and `rt` in its bin, which goes first on PATH.
-# rt itself is this machine's, since what is proved in the tree is proved for this machine. On an Arm machine the home is as it was, in links.
+# seem_arm FOLDER: the folder is a toolchain's home for such a machine, with `uname` and qemu-x86_64 in its bin, which goes first on PATH.
+# rt itself is the real one: what is proved in the tree is proved for this machine. On an Arm machine the home is as it was, in links.
 # The emulator for x86-64 runs nothing, and says so.
 seem_arm() {
-    local real home own tools=$1/on/aarch64/toolchain
+    local real home
     real=$(readlink -f "$(command -v rt)") || failed "no rt: install the Rattle toolchain and put its bin folder on PATH"
-    home=${RATTLE_HOME:-${real%/*/*}} own=$home/on/$(uname -m)
-    links_to "$1" "$home" bin on
-    links_to "$1/on/aarch64" "$own" toolchain
-    links_to "$tools" "$own/toolchain" bin
-    links_to "$tools/bin" "$own/toolchain/bin" ld.lld qemu-x86_64
-    mkdir "$1/bin" || failed "$1/bin can't be made"
-    echo "PATH=\${PATH#'$1/bin:'} RATTLE_HOME='$home' exec '$real' \"\$@\"" | put_program "$1/bin/rt"
-    echo "echo 'the console for x86-64 was to be run, and the one for Arm is wanted' >&2; exit 1" | put_program "$tools/bin/qemu-x86_64"
+    home=${RATTLE_HOME:-${real%/*/*}}
+    links_to "$1" "$home" bin toolchain
+    links_to "$1/bin" "$home/bin" rt rattle
+    ln -s "$real" "$1/bin/rt" && ln -s "$home/bin/rattle" "$1/bin/rattle" || failed "no link to rt or rattle"
+    links_to "$1/toolchain" "$home/toolchain" bin
+    links_to "$1/toolchain/bin" "$home/toolchain/bin" ld.lld
+    echo "echo 'the console for x86-64 was to be run, and the one for Arm is wanted' >&2; exit 1" | put_program "$1/bin/qemu-x86_64"
     if [ "$(uname -m)" = aarch64 ]; then
-        ln -s "$own/toolchain/bin/ld.lld" "$tools/bin/" || failed "no link to ld.lld"
+        ln -s "$home/toolchain/bin/ld.lld" "$1/toolchain/bin/" || failed "no link to ld.lld"
         return
     fi
     get_qemu
     put_uname "$1/bin"
-    put_linker "$tools/bin" "$own/toolchain/bin/ld.lld"
+    put_linker "$1/toolchain/bin/ld.lld" "$home/toolchain/bin/ld.lld"
 }
 
 # as_arm FOLDER COMMAND..: runs a command on the machine that seems to be one.

@@ -3,23 +3,44 @@
 
 real=$(readlink -f "$(command -v rt)") || failed "no rt"
 home=${RATTLE_HOME:-${real%/*/*}}
-mkdir "$work/bin" && cp tests/launcher/rt target/bin/console "$work/bin/" || failed "no copy of the toolchain that records"
+mkdir "$work/bin" && cp tests/launcher/rt crates/console/out/console "$work/bin/" || failed "no copy of the toolchain that records"
 
-# The console for Arm is made once by all that is real, so that its module is there; a clone makes its own from that.
+# The console for Arm is made once by all that is real; a clone links its own from that one's object.
 firmware/native >"$work/out" 2>"$work/err" || failed "the console can't be compiled for Arm"
-module=$PWD/target/arm/console.ll
+object=$PWD/target/arm/console.o
 
 # On an Arm machine one line more is said, that the console is compiled for it, and rt is asked once more.
 more=0
 [ "$(uname -m)" != aarch64 ] || more=1
 
-# A clone without target/, and an empty record.
+# The clone's crates, whatever the project's own are: the rt that records proves the fifteen of the console.
+list_crates() {
+    cat <<-'LIST'
+	words:
+	numbers:
+	keys: words
+	contact: words
+	registers: words
+	text: words
+	judge: words numbers keys registers
+	state: words keys
+	flags: words state
+	picture: words keys state
+	scan: words keys contact state
+	sound: words keys state picture
+	access: words keys registers state flags picture
+	calls: words numbers keys judge state flags sound scan access
+	console: text numbers keys state flags calls
+	panel staticlib: keys state calls
+	LIST
+}
+
+# A clone in which nothing is built, and an empty record.
 clone() {
     rm -rf "$at"
     mkdir -p "$at/.ci"
-    cp -R panel tools crates docs examples firmware tests/launcher/crates.txt "$at/"
-    cp tests/launcher/extract "$at/firmware/"
-    cp .ci/toolchain "$at/.ci/"
+    tar --anchored --no-wildcards-match-slash --exclude='crates/*/out' -cf - panel tools crates docs examples firmware .ci/toolchain | tar -C "$at" -xf - || failed "no clone"
+    list_crates >"$at/crates.txt"
     : >"$work/record"
 }
 
@@ -35,11 +56,14 @@ fake() {
     local mode=$1
     shift
     env PATH="$work/bin:$PATH" RATTLE_HOME="$home" FAKE_MODE="$mode" FAKE_RECORD="$work/record" FAKE_PROGRAM="$work/bin/console" \
-        FAKE_OBJECT="$top/target/obj/console.o" FAKE_MODULE="$module" "$@"
+        FAKE_OBJECT="$object" "$@"
 }
 
 # answered: the second module's answers to the script came, and nothing else.
 answered() { cmp -s "$work/out" examples/trim.out || failed "other answers than examples/trim.out"; }
+
+# told NAME NUMBER OF: it was said that this crate is proved, the so manieth of so many.
+told() { grep -q "^panel: $1 proved in [0-9]* s ($2 of $3)\$" "$work/err" || failed "$1 isn't told of as the crate $2 of $3"; }
 
 # The first run says what it does; the next says nothing, though files are newer, for rt is asked, not the clock.
 see_first_run() {
@@ -47,14 +71,14 @@ see_first_run() {
     gives 0 panel proved <examples/trim.txt
     answered
     has err "the console's 15 crates have to be proved and built"
-    says err "panel: words proved in 3 s (1 of 15)"
-    says err "panel: console proved in 3 s (15 of 15)"
-    grep -q '^panel: proved and built in [0-9]* s; target/ takes [0-9]* MB$' "$work/err" || failed "the disk isn't told of"
+    told words 1 15
+    told console 15 15
+    grep -q '^panel: proved and built in [0-9]* s; crates/\*/out take [0-9]* MB$' "$work/err" || failed "the disk isn't told of"
     lines err $((17 + more))
     gives 0 panel proved <examples/trim.txt
     answered
     lines err 0
-    recorded $((2 + more)) '^called: check console$'
+    recorded $((2 + more)) '^called: run in console$'
     recorded 15 '^proved: '
     recorded 0 '^took a line'
     seen "the first run tells what is proved, the next is silent"
@@ -62,19 +86,19 @@ see_first_run() {
 
 # A changed crate: those that use it may have to be proved again, and no others; rt decides.
 see_change() {
-    rm "$at/target/stamp/scan"
+    rm "$at/crates/scan/out/rlib/stamp" "$at/crates/console/out/console.stamp"
     touch "$at/crates/access/src/lib.rt"
     gives 0 panel proved <examples/trim.txt
     answered
     says err "panel: up to 4 of the console's 15 crates have to be proved"
-    says err "panel: scan proved in 3 s (1 of 4)"
-    recorded 16 '^proved: '
+    told scan 1 4
+    recorded 17 '^proved: '
     gives 0 panel proved <examples/trim.txt
     lines err 0
-    rm "$at/target/bin/console"
+    rm "$at/crates/console/out/console"
     gives 0 panel proved <examples/trim.txt
     answered
-    recorded 2 '^proved: console'
+    recorded 3 '^proved: console'
     seen "a change is told of, and a program that is gone is built again"
 }
 
@@ -83,16 +107,17 @@ see_refused() {
     gives 1 panel refused <examples/trim.txt
     lines out 0
     says err 'keys/proofs/Lib.antt:1:1: error: it is not so'
-    says err 'rt: keys NOT PROVED (exit 1, 1 s)'
+    says err 'fn keys::two: not proved'
+    says err 'rt: the library keys did not build, so nothing above it was checked'
     has err "panel: the console is not proved, so it isn't run"
-    lines err 3
-    [ ! -e "$at/target/bin/console" ] || failed "a program whose check failed is still there"
+    lines err 4
+    [ ! -e "$at/crates/console/out/console" ] || failed "a program whose check failed is still there"
     gives 0 panel proved <examples/trim.txt
     answered
     gives 1 panel unlike "$top/examples/trim.txt"
     lines out 0
-    has err "its run FAILED"
-    [ ! -e "$at/target/bin/console" ] || failed "a program whose run failed is still there"
+    sentence "the console is proved, but on crates/console/stdin it doesn't write what crates/console/stdout has"
+    [ ! -e "$at/crates/console/out/console" ] || failed "a program whose run failed is still there"
     seen "a program whose check failed is removed, not run"
 }
 
@@ -111,7 +136,7 @@ see_two() {
     clone
     panel slow <examples/trim.txt >"$work/out.first" 2>"$work/err.first" &
     first=$!
-    waits_for '^called: check'
+    waits_for '^called: run'
     gives 0 panel slow <examples/trim.txt
     answered
     says err "panel: another ./panel proves and builds here: waiting for it"
@@ -155,13 +180,14 @@ see_sentences() {
     sentence "no temporary folder can be made in $work/none"
     gives 0 panel proved <examples/trim.txt
     gives 1 panel shut <examples/trim.txt
-    sentence "target can't be written to"
-    rm -r "$at/target"
+    sentence "crates/\*/out can't be written to"
+    clone
     chmod a+rx "$work"
     chmod -R a+rX,a-w "$at"
     gives 1 as_user proved "$at/panel" </dev/null
-    sentence "target can't be written to"
-    [ ! -e "$at/target" ] || failed "something was written to a read-only clone"
+    sentence "crates/\*/out can't be written to"
+    ! ls -d "$at"/crates/*/out >/dev/null 2>&1 || failed "something was written to a read-only clone"
+    chmod -R u+w "$at"
     seen "a full disk, a read-only clone, no temporary folder: a sentence each"
 }
 

@@ -3,7 +3,8 @@
 # shellcheck shell=bash disable=SC2154
 
 seem_arm "$work/arm"
-put_program "$work/arm/on/aarch64/toolchain/bin/qemu-x86_64" <<-'PROGRAM'
+rm "$work/arm/bin/rattle" && cp tests/launcher/rattle "$work/arm/bin/" || failed "no copy of the prover that records"
+put_program "$work/arm/bin/qemu-x86_64" <<-'PROGRAM'
 	echo "emulated: $*" >>"$FAKE_RECORD"
 	echo '0 emulated'
 	PROGRAM
@@ -11,10 +12,10 @@ put_program "$work/arm/on/aarch64/toolchain/bin/qemu-x86_64" <<-'PROGRAM'
 # on_arm MODE COMMAND..: a command with the toolchain that only records, in that mode, on an Arm machine.
 on_arm() { home=$work/arm PATH="$work/arm/bin:$PATH" fake "$@"; }
 
-# made NUMBER: what is said tells that the console is compiled for this machine, and so often its module was asked for.
+# made NUMBER: what is said tells that the console is compiled for this machine, and so often the prover was asked for it.
 made() {
     says err "panel: the console is compiled for this machine, this once: a few minutes"
-    recorded "$1" '^extracted: console$'
+    recorded "$1" '^compiled: console for aarch64-unknown-linux-gnu$'
 }
 
 # answered_on_arm: the console for Arm gave the answers, and nothing was emulated.
@@ -42,17 +43,16 @@ see_made() {
     seen "on an Arm machine the console is compiled for it, once, and runs without an emulator"
 }
 
-# One that is older than the proved program is made again, not run; so is one that is gone. The module is kept while it is the proved program's.
+# One that is older than the proved program is made again, not run; so is one that is gone.
 see_older() {
     plant
     gives 0 on_arm proved "$at/panel" <examples/trim.txt
-    made 1
+    made 2
     lines err 1
     answered_on_arm
     rm "$at/target/arm/console"
-    sed -i 's/^  ret i32 0$/  ret i32 7/' "$at/target/arm/console.ll"
     gives 0 on_arm proved "$at/panel" <examples/trim.txt
-    made 2
+    made 3
     answered_on_arm
     seen "a console for Arm that is older than the proved one is made again"
 }
@@ -63,23 +63,21 @@ not_made() {
     gives 0 on_arm proved "$at/panel" <examples/trim.txt
     says out '0 emulated'
     lines out 1
-    recorded 1 "^emulated: .*/ld-linux-x86-64.so.2 --library-path .* $at/target/bin/console\$"
+    recorded 1 "^emulated: .*/ld-linux-x86-64.so.2 --library-path .* $at/crates/console/out/console\$"
     [ "$(grep -c "^panel: the console can't be compiled for this machine, so the emulator runs the one for x86-64, slowly: .*$1" "$work/err")" -eq 1 ] || failed "the sentence doesn't say: $1"
     lines err 2
     : >"$work/record"
 }
 
-# No module, one that isn't the proved program's, C that doesn't compile: the emulator runs the proved program, and nothing that is old runs.
+# No object, one that isn't for Arm, C that doesn't compile: the emulator runs the proved program, and nothing that is old runs.
 see_not_made() {
-    local right=$module
-    rm "$at/target/arm/console.ll"
-    module=$work/none
-    not_made 'extract ended with status 1'
-    sed 's/^  ret i32 0$/  ret i32 7/' "$right" >"$work/other.ll"
-    ! cmp -s "$work/other.ll" "$right" || failed "no error is planted in the module"
-    module=$work/other.ll
-    not_made "doesn't compile to target/obj/console.o"
-    module=$right
+    local right=$object
+    object=$work/none
+    not_made 'rattle ended with status 1'
+    "$work/arm/toolchain/bin/clang" --target=x86_64-unknown-linux-gnu -c -x c /dev/null -o "$work/other.o" || failed "no object for x86-64"
+    object=$work/other.o
+    not_made 'ld.lld ended with status 1'
+    object=$right
     echo 'int' >>"$at/firmware/linux/start.c"
     not_made 'clang ended with status 1'
     seen "a console for Arm that can't be made is told of, and the emulator runs the proved one"
@@ -91,7 +89,7 @@ see_not_proved() {
     gives 1 on_arm refused "$at/firmware/native"
     has err "the console is not proved, so it isn't compiled for aarch64"
     [ ! -e "$at/target/arm" ] || failed "something is made of a console that isn't proved"
-    recorded 0 '^extracted: '
+    recorded 0 '^compiled: '
     seen "nothing is made for Arm of a console that isn't proved"
 }
 
