@@ -9,7 +9,7 @@ failed() {
 
 # The archive, the player's and the group reader's are built if they are missing or older than a source.
 find_archive() {
-    archive=target/staticlib/libpanel.a player=target/staticlib/libplayer.a groups=target/staticlib/libgroups.a
+    archive=crates/panel/out/libpanel.a player=crates/player/out/libplayer.a groups=crates/groups/out/libgroups.a
     build_archive panel "$archive"
     build_archive player "$player"
     build_archive groups "$groups"
@@ -18,11 +18,11 @@ find_archive() {
 # build_archive CRATE FILE
 build_archive() {
     if [ -f "$2" ]; then
-        newer=$(find crates crates.txt -newer "$2") || failed "find ended with status $?"
+        newer=$(find crates/*/src crates/*/specs crates/*/proofs crates.txt -newer "$2") || failed "find ended with status $?"
         [ -n "$newer" ] || return 0
     fi
-    echo "the archive is missing or older than the sources: rt staticlib $1"
-    rt staticlib "$1" >"$work/log" 2>&1 || failed "rt staticlib $1"
+    echo "the archive is missing or older than the sources: rt lib in crates/$1"
+    (cd "crates/$1" && rt lib) >"$work/log" 2>&1 || failed "rt lib in crates/$1"
 }
 
 # compile LEVEL FILE OBJECT WORDS..: the toolchain's compiler, with the small headers of the C test.
