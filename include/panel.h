@@ -50,9 +50,9 @@
  * wakes the panel, so `asleep` and `quiet` are altered, and nothing else of the module; and a transfer begins and ends on its wire, whatever the number.
  * A number is given exactly when its condition holds and none before it in the call's list does.
  *
- * Link with libpanel.a, which `rt staticlib panel` writes for x86-64; panel_play is in libplayer.a, by `rt staticlib player`, so that a panel that
- * only records does without it; panel_group, panel_stretch and panel_groups are in libgroups.a, by `rt staticlib groups`, for the computer that has the
- * codes. They need memcpy and the like, and nothing else.
+ * Link with libpanel.a, which `rt lib` in crates/panel writes for x86-64; panel_play is in libplayer.a, by `rt lib` in crates/player, so that a panel that
+ * only records does without it; panel_group, panel_stretch and panel_groups are in libgroups.a, by `rt lib` in crates/groups, for the computer that has the
+ * codes. Each stands in its crate's out/. They need memcpy and the like, and nothing else.
  *
  * What the sixteen calls and the six of the wire do is proved, for every module, every argument and every length. Outside the proof, and so for the caller to see to:
  *   - every bool of a `struct panel`, and the bool that takes an answer, is the byte 0 or 1 before the call. Soundness doesn't see another
