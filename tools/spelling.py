@@ -99,6 +99,15 @@ def turned(line, rows, comment):
     return code + said
 
 
+def indexed(line, rows):
+    """A line of the index at the head of a page: its first column has names, with dashes too."""
+    m = COLUMNS.match(line)
+    if not m and not re.match(r"^--    [a-z][\w-]*(, [a-z][\w-]*)*$", line):
+        return line
+    names_, rest = (m.group(1), m.group(2) + m.group(3)) if m else (line[6:], "")
+    return "--    " + TOKEN.sub(lambda t: rows.get(t.group(0), t.group(0)) if "-" in t.group(0) else t.group(0), names_) + rest
+
+
 def aligned(lines):
     """An index at the head of a page, in two columns again."""
     out, block = [], []
@@ -130,7 +139,7 @@ def main():
     for path in files(".antt", ".rt"):
         old = text(path)
         comment = "--" if path.endswith(".antt") else "//"
-        lines = [turned(line, rows, comment) for line in old.split("\n")]
+        lines = [indexed(turned(line, rows, comment), rows) for line in old.split("\n")]
         if "/specs/" in path:
             lines = aligned(lines)
         new = "\n".join(lines)

@@ -1,24 +1,24 @@
 -- Laws of the bytes of an access.
 --
---    written-by                          what a byte does to the register that is told
---    wrote-end, wrote-next               no byte is left to write; one is written, and then the rest
+--    written_by                          what a byte does to the register that is told
+--    wrote_end, wrote_next               no byte is left to write; one is written, and then the rest
 --    read_by                             what a read of the register that is told gives
---    shown-code                          the picture shown, and the marks' lent parts, are a read of KBDCODE
---    taken-code                          a code taken out of the queue's lent parts is a read of EVTCODE
---    read-end, read-last                 an empty buffer is filled with nothing; the last place
+--    shown_code                          the picture shown, and the marks' lent parts, are a read of KBDCODE
+--    taken_code                          a code taken out of the queue's lent parts is a read of EVTCODE
+--    read_end, read_last                 an empty buffer is filled with nothing; the last place
 --    rest x b, back x b e                what is lent of a buffer x once b is in its first place, and the buffer once that came back as e
---    rest-length, back-length, back_is   their lengths, and what the buffer then holds
+--    rest_length, back_length, back_is   their lengths, and what the buffer then holds
 --    read_next, read_more                one byte is read, and then the rest
---    evtcode-at, evtcode-stays           the register at 0x10, and the address after it
---    picture-at, picture-next            the picture's registers, and the address after each
---    shown-picture                       what is shown by the rows' masks is the picture
+--    evtcode_at, evtcode_stays           the register at 0x10, and the address after it
+--    picture_at, picture_next            the picture's registers, and the address after each
+--    shown_picture                       what is shown by the rows' masks is the picture
 --    none_read                           a read of EVTCODE while no code waits
 --    none_left                           none waits once the only one is taken out
 --    read_at                             a read from an address that is told
 --    after a n                           the address of the byte behind n bytes
---    read-split, bytes-first             a read in two parts, and the bytes of the first; bytes-last: the last byte
+--    read_split, bytes_first             a read in two parts, and the bytes of the first; bytes-last: the last byte
 --    code m i                            the code that byte i of a read of EVTCODE gives
---    still-evtcode, codes-next, codes_all    behind EVTCODE comes EVTCODE; one byte more, and all
+--    still_evtcode, codes_next, codes_all    behind EVTCODE comes EVTCODE; one byte more, and all
 -- Assumes nothing.
 use Prim.Native.Nat.{ℕ, zero, suc, ◌+◌, ◌-◌, ◌≤◌, ◌<◌}
 use native.Mathlib.Decide.{dec_lt}

@@ -1,22 +1,23 @@
 -- Laws of reads of the pins' registers.
 --
---    no-left, no-right         of a disjunction that is false
---    next-from, next-most      behind an address of the pins comes no other; the next address is at most one more
+--    no_left, no_right         of a disjunction that is false
+--    next_from, next_most      behind an address of the pins comes no other; the next address is at most one more
 --    seen m a                  the byte that a read of the state m gives at an address of the pins
---    irqst-byte, other_byte    IRQST, and any other register
+--    irqst_byte, other_byte    IRQST, and any other register
 --    no_edges                  an address that is none of GPIORIS and GPIOMIS
---    unknown-byte, pin-byte    it is that of the register there, which reading leaves as it is
---    along-read                so are the bytes of a read
---    pins-given                the same, of bytes and a KBDMIS that are told
---    items-last, items-all     bytes at hand, the last of them and all
---    along-end, along-last     byte for byte: none is left; one is
---    along-more                one, and then the rest
---    items-along               bytes at hand that a read gives, one after the other
---    kept_byte, kept-given     of registers that read as they are kept
---    edge-byte, edge-given     of GPIORIS and GPIOMIS
---    past-address, keypad-more    the next address, and a run from there on
---    keypad-run                a read that may be done stays among the keypad's registers if it begins there
---    keypad-other, keypad-no-pin, told-no-pin    no register of the keypad is one of the pins'
+--    unknown_byte, pin_byte_lem    it is that of the register there, which reading leaves as it is
+--    along_read                so are the bytes of a read
+--    pins_given                the same, of bytes and a KBDMIS that are told
+--    items_last, items_all     bytes at hand, the last of them and all
+--    items_end, items_more     bytes at hand are given: none is left; one, and then the rest
+--    along_end, along_last     byte for byte: none is left; one is
+--    along_more                one, and then the rest
+--    items_along               bytes at hand that a read gives, one after the other
+--    kept_byte, kept_given     of registers that read as they are kept
+--    edge_byte, edge_given     of GPIORIS and GPIOMIS
+--    past_address, keypad_more    the next address, and a run from there on
+--    keypad_run                a read that may be done stays among the keypad's registers if it begins there
+--    keypad_other, keypad_no_pin, told_no_pin    no register of the keypad is one of the pins'
 -- Assumes nothing.
 use Prim.Native.Nat.{ℕ, zero, suc, ◌+◌, ◌-◌, ◌≤◌, ◌<◌}
 use native.Mathlib.Decide.{dec_lt}
@@ -153,6 +154,20 @@ pub items_all : (l : List ℕ) (at n : ℕ) → table (λ k. get_or l (at + k) 0
 unfolding items table
 items_all l at zero = refl
 items_all l at (suc n) = ap (λ (x : List ℕ). x ++ (get_or l (at + n) 0 ∷ [])) (items_all l at n) ∙ sym (items_last l at n)
+
+pub items_end : (l : List ℕ) (at : ℕ) (x : List ℕ) → length x < 1 → x ≡ items l at (length x)
+unfolding items
+items_end l at [] h = refl
+items_end l at (b ∷ x) h = absurd (omega arith)
+
+items_next : (l : List ℕ) (at n : ℕ) → 1 ≤ n → get_or l at 0 ∷ items l (at + 1) (n - 1) ≡ items l at n
+unfolding items
+items_next l at zero h = absurd (omega arith)
+items_next l at (suc n) h = simp sub-one
+
+pub items_more : (l : List ℕ) (at : ℕ) (x : List ℕ) (b : ℕ) (e : List ℕ) → 1 ≤ length x → b ≡ get_or l at 0 → e ≡ items l (at + 1) (length (rest x b)) → back x b e ≡ items l at (length x)
+items_more l at x b e h eb ee =
+    back_is x b h e ∙ (λ i. eb i ∷ ee i) ∙ ap (λ (n : ℕ). get_or l at 0 ∷ items l (at + 1) n) (rest_length x b h) ∙ items_next l at (length x) h
 
 pub along_end : (f : ℕ → ℕ) (a : ℕ) (x : List ℕ) → length x < 1 → x ≡ along f a (length x)
 unfolding along

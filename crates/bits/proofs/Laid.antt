@@ -1,16 +1,16 @@
 -- Laws of bits laid into a buffer, and of the bits of bytes from a place on.
 --
---    spelled-append, spelled-part, spelled-rest   numbers spelled in two parts; the first of them, the others
+--    spelled_append, spelled_part, spelled_rest   numbers spelled in two parts; the first of them, the others
 --    numbers_more                                 numbers read in two parts
---    bytes-length                                 how many bytes bits take
---    bytes_back, bytes-more                       bits in bytes are read there; whole bytes stand before them
+--    bytes_length                                 how many bytes bits take
+--    bytes_back, bytes_more                       bits in bytes are read there; whole bytes stand before them
 --    laid_next                                    bits laid behind others
---    laid-length                                  the buffer keeps its length
---    laid-part, laid-front                        bits laid into a buffer from a byte on; at its front
+--    laid_length                                  the buffer keeps its length
+--    laid_part, laid_front                        bits laid into a buffer from a byte on; at its front
 --    laid_none                                    no bits laid, where no byte is begun
---    all-bytes                                    all are bytes, if each is
---    from-part, from_front, from_more             the bits from a byte on; all of them; those behind the next
---    from-length                                  how many they are
+--    all_bytes                                    all are bytes, if each is
+--    from_part, from_front, from_more             the bits from a byte on; all of them; those behind the next
+--    from_length                                  how many they are
 -- Assumes nothing.
 use Prim.Native.Nat.{ℕ, zero, suc, ◌+◌, ◌*◌, ◌-◌, ◌/◌, ◌%◌, ◌≤◌, ◌<◌}
 use native.Mathlib.Omega.{arith}

@@ -1,17 +1,17 @@
 -- Laws of bits, each for every width.
 --
---    number-bits, bits-number               a number's bits, there and back
---    bits-low-only                          only a number's last w bits count
---    number-below                           n bits spell a number below 2 ^ n
---    bits-length, front_length              how many they are
---    front-all, front-filled                the next bits where a list begins; of a list that is too short, filled with 0
---    front-more, front-parts, front_rest    the next bits in two parts, in three; and all others behind them
---    number-there, number-back              a number written, then read; read, then written
---    numbers-there, numbers-back            the same of a list of numbers
+--    number_bits, bits_number               a number's bits, there and back
+--    bits_low_only                          only a number's last w bits count
+--    number_below                           n bits spell a number below 2 ^ n
+--    bits_length, front_length              how many they are
+--    front_all, front_filled                the next bits where a list begins; of a list that is too short, filled with 0
+--    front_more, front_parts, front_rest    the next bits in two parts, in three; and all others behind them
+--    number_there, number_back              a number written, then read; read, then written
+--    numbers_there, numbers_back            the same of a list of numbers
 --    number_fits, numbers_fit               what is read has the width
---    numbers-length, spelled-length         how many they are
---    widths-more                            a width more
---    numbers-front                          what is read lies in the front
+--    numbers_length, spelled_length         how many they are
+--    widths_more                            a width more
+--    numbers_front                          what is read lies in the front
 -- Assumes nothing.
 use Prim.Native.Nat.{ℕ, zero, suc, ◌+◌, ◌*◌, ◌-◌, ◌/◌, ◌%◌, ◌^◌, ◌≤◌, ◌<◌}
 use native.Mathlib.Nat.{div-div-eq-div-mul, div-add-mod, pow-succ', suc-mul, mul-suc}

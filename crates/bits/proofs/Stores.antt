@@ -1,9 +1,9 @@
 -- Laws of stores: numbers stored one by one, and bits laid byte by byte.
 --
---    place-low, place-next          the place of a number behind others: it is low, and the number has room there
---    found-next                     one number more in a table
---    laid-again, put_next           bits laid where none were laid, and one number more laid
---    laid-stores                    bits laid by stores, from their first byte on
+--    place_low, place_next          the place of a number behind others: it is low, and the number has room there
+--    found_next                     one number more in a table
+--    laid_again, put_next           bits laid where none were laid, and one number more laid
+--    laid_stores                    bits laid by stores, from their first byte on
 --    put_one, put_two, put_three    the stores of the first one, two or three bytes of 24 bits
 -- Assumes nothing.
 use Prim.Native.Nat.{ℕ, suc, ◌+◌, ◌*◌, ◌-◌, ◌/◌, ◌%◌, ◌≤◌, ◌<◌}

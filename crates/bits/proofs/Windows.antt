@@ -1,14 +1,14 @@
 -- Laws of the numbers that parts of bits spell.
 --
---    power-positive, one_shifted              a power of 2, and one in 32 bits
---    value-join, value-bits                   the number of two lists of bits, and of a number's last bits
---    number-window                            a number of w bits among n
---    number-most                              24 bits are below 2 ^ 24
---    high_byte, middle-byte, low_byte         the bytes of 24 bits
---    number-bytes                             24 bits by their bytes
---    byte-there, three-there                  a byte where it lies, and three
---    window-fits, window-there                a number of w bits by shifts in 32 bits
---    kept-fits, joined_number                 the first bits of a byte and a number behind them, joined by shifts in 32 bits
+--    power_positive, one_shifted              a power of 2, and one in 32 bits
+--    value_join, value_bits                   the number of two lists of bits, and of a number's last bits
+--    number_window                            a number of w bits among n
+--    number_most                              24 bits are below 2 ^ 24
+--    high_byte, middle_byte, low_byte         the bytes of 24 bits
+--    number_bytes                             24 bits by their bytes
+--    byte_there, three_there                  a byte where it lies, and three
+--    window_fits, window_there                a number of w bits by shifts in 32 bits
+--    kept_fits, joined_number                 the first bits of a byte and a number behind them, joined by shifts in 32 bits
 -- Assumes nothing.
 use Prim.Native.Nat.{ℕ, zero, suc, ◌+◌, ◌*◌, ◌-◌, ◌/◌, ◌%◌, ◌^◌, ◌≤◌, ◌<◌}
 use native.Mathlib.Nat.{mul_assoc, add-mul, mul-add-div_right, mul-add-mod_self_right, le-mul_of_pos_right}

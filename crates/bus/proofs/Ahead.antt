@@ -1,8 +1,8 @@
 -- THE CODES MADE AHEAD, while a host reads from EVTCODE: they waited when the read began, and still wait before all that came since.
 --
 --    Ahead w past      so it is of the wire w after a past; AheadThen w past: if the host reads there
---    ahead-waiting     the bytes made ahead at EVTCODE are the codes that wait, then empty marks
---    ahead-reads, ahead-takes, ahead-gives, ahead_own    after each event
+--    ahead_waiting     the bytes made ahead at EVTCODE are the codes that wait, then empty marks
+--    ahead_reads, ahead_takes, ahead_gives, ahead_own    after each event
 --    aheads            AHEADS: after any events that fit, if the panel's own program only looks, samples its pins and asks while the host reads
 -- Assumes nothing.
 use Prim.Native.Nat.{ℕ, ◌-◌}

@@ -1,7 +1,7 @@
 -- The steps of a wire, by cases.
 --
---    takes-cases    a byte comes: the address, that of a declined write, one to be written, or one that nothing waits for
---    gives-cases    a byte is asked for: there is one, or there is none
+--    takes_cases    a byte comes: the address, that of a declined write, one to be written, or one that nothing waits for
+--    gives_cases    a byte is asked for: there is one, or there is none
 -- Assumes nothing.
 use Prim.Native.Nat.{ℕ, ◌<◌}
 use mathlib.Core.Path.{◌≡◌}

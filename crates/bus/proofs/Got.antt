@@ -1,13 +1,13 @@
 -- WHAT THE HOST GOT is what was fetched.
 --
---    sent-first, sent-few, sent-ahead    the bytes of a read that were sent: as many as were handed over and the bus says, and the first of those made ahead
---    heard-sent        what a host hears of a read is in them
---    agreed-codes, agreed-elsewhere, heard-agreed    and the codes in them are those of the read that is made at the stop, as far as the module still gives them
---    reads-can         a read of bytes that can be read is declined by the panel's sleep only
---    reads_fetched, writes-fetched       what the calls of a stop fetch, and what they leave
---    stop-got          so at a stop the host gets what is fetched
---    host-got          HOST-GOT: after any events the codes that the host got are those that were fetched
---    host-ledger       DEMAND 3, BY WHAT THE HOST GOT
+--    sent_first, sent_few, sent_ahead    the bytes of a read that were sent: as many as were handed over and the bus says, and the first of those made ahead
+--    heard_sent        what a host hears of a read is in them
+--    agreed_codes, agreed_elsewhere, heard_agreed    and the codes in them are those of the read that is made at the stop, as far as the module still gives them
+--    reads_can         a read of bytes that can be read is declined by the panel's sleep only
+--    reads_fetched, writes_fetched       what the calls of a stop fetch, and what they leave
+--    stop_got          so at a stop the host gets what is fetched
+--    host_got          HOST-GOT: after any events the codes that the host got are those that were fetched
+--    host_ledger       DEMAND 3, BY WHAT THE HOST GOT
 -- Assumes nothing.
 use Prim.Native.Nat.{ℕ, ◌≤◌}
 use native.Mathlib.Omega.{arith}

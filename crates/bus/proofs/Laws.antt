@@ -1,15 +1,15 @@
 -- Laws of what a host hears.
 --
 --    all_so                    a test of a list that follows from another
---    take-least                the first items of a list's first items
---    heard-silent              of FF behind the bytes of a read a host hears nothing
---    not-codes, next-not       an address other than 0x10 is not that of EVTCODE, and if it can be read, the next one isn't either
---    heard-elsewhere, codes-elsewhere    so no code is in a read that begins elsewhere
---    driven b, code-driven     the byte b is not FF; no code is FF
---    heard-codes               of EVTCODE a host hears the codes among the bytes, if none is FF
---    bytes-waiting             the bytes of EVTCODE are the codes that wait, then empty marks
---    marks-none, marks-shared  empty marks are no codes, nor is what a list shares with them
---    shared-codes              SHARED-CODES: codes that are followed by empty marks are all among what a list that begins with them shares with that
+--    take_least                the first items of a list's first items
+--    heard_silent              of FF behind the bytes of a read a host hears nothing
+--    not_codes, next_not       an address other than 0x10 is not that of EVTCODE, and if it can be read, the next one isn't either
+--    heard_elsewhere, codes_elsewhere    so no code is in a read that begins elsewhere
+--    driven b, code_driven     the byte b is not FF; no code is FF
+--    heard_codes               of EVTCODE a host hears the codes among the bytes, if none is FF
+--    bytes_waiting             the bytes of EVTCODE are the codes that wait, then empty marks
+--    marks_none, marks_shared  empty marks are no codes, nor is what a list shares with them
+--    shared_codes              SHARED-CODES: codes that are followed by empty marks are all among what a list that begins with them shares with that
 -- Assumes nothing.
 use Prim.Native.Nat.{ℕ, zero, suc, ◌+◌, ◌-◌, ◌≤◌}
 use native.Mathlib.Omega.{arith}

@@ -1,7 +1,7 @@
 -- THE CALLS THAT A STOP MAKES.
 --
---    count-read, count-write           how many bytes the access has
---    made-read, made-write, made_none  the calls, while the host reads, while it writes, and while it does neither
+--    count_read, count_write           how many bytes the access has
+--    made_read, made_write, made_none  the calls, while the host reads, while it writes, and while it does neither
 --    once                              an access that isn't declined with 27 is made once
 -- Assumes nothing.
 use Prim.Native.Nat.{ℕ}

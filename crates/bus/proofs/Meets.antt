@@ -1,6 +1,6 @@
 -- OUR WIRE MEETS THE DEMAND on what stands between a bus and our calls. The demand is in specs/Bus.antt, the part in specs/Ours.antt.
 --
---    ours-on-the-bus    demand 3 by what the host got, and that transfers are accesses
+--    ours_on_the_bus    demand 3 by what the host got, and that transfers are accesses
 -- Assumes nothing.
 use Rattle.bus.specs.Bus.{BusDemand}
 use Rattle.bus.specs.Ours.{ours}

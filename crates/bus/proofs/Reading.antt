@@ -1,13 +1,13 @@
 -- A READ ON THE BUS gives what a whole read gives, and at its stop one read was made.
 --
---    asking-calls             to ask for bytes makes no call
+--    asking_calls             to ask for bytes makes no call
 --    Asked w n s, asked       n bytes of the wire w were asked for, and the host was handed them; so it is once they were asked for
 --    Onward w v, onward       the wire v is the wire w, from which more bytes were asked for; so it is once they were
---    one-done, done-few       where a read is done, one of one byte is, and it has no more bytes than the longest
---    begins, ahead-first      all its bytes are made ahead
+--    one_done, done_few       where a read is done, one of one byte is, and it has no more bytes than the longest
+--    begins, ahead_first      all its bytes are made ahead
 --    made_one                 if the module still gives the bytes that were sent, the stop makes one read, of them
---    whole-bytes              BYTES: the bytes are those of a whole read
---    whole-read               ONE-READ: at the stop one read was made, of the bytes sent
+--    whole_bytes              BYTES: the bytes are those of a whole read
+--    whole_read               ONE-READ: at the stop one read was made, of the bytes sent
 -- Assumes nothing.
 use Prim.Native.Nat.{ℕ, zero, suc, ◌≤◌, ◌<◌}
 use native.Mathlib.Omega.{arith}

@@ -1,10 +1,10 @@
 -- NO WRONG PART OF specs/Wrong.antt MEETS BusDemand: for each a short story after which it is seen.
 --
 --    LedgerIs P es found wanted    the values fit, the story is proper, the codes that the host got, with those that wait, are found, and wanted were demanded
---    LedgerWrong, no-ledger        the same, and they aren't those; such a part doesn't meet the demand
+--    LedgerWrong, no_ledger        the same, and they aren't those; such a part doesn't meet the demand
 --    pressed, naming, asked, ..   the stories, newest first
 --    Told, told                    what is found of each part, and what was to be found: ALL COMPUTED
---    naive-refuted, ..             no wrong part meets the demand
+--    naive_refuted, ..             no wrong part meets the demand
 -- Assumes nothing.
 use Prim.Native.Nat.{ℕ}
 use native.Mathlib.Omega.{arith}

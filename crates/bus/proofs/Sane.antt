@@ -1,6 +1,6 @@
 -- AFTER ANY EVENTS the wire and the host agree, and every call that was made has values that fit.
 --
---    made-fit     the calls that a stop makes fit
+--    made_fit     the calls that a stop makes fit
 --    Sane s       the wire and the host of the story s agree, and its calls fit
 --    sane         so it is after any events that fit
 -- Assumes nothing.

@@ -1,11 +1,11 @@
 -- WHAT THE PART'S OWN CALLS FETCH.
 --
---    waking-fetched     the access that a beginning makes while the panel sleeps fetches nothing
---    rouses-fit, rouses-fetched, rouses-waiting, rouses-empty    so it is of the calls of a beginning
---    twice-fit          a call that fits, made again if it is declined with 27, fits
+--    waking_fetched     the access that a beginning makes while the panel sleeps fetches nothing
+--    rouses_fit, rouses_fetched, rouses_waiting, rouses_empty    so it is of the calls of a beginning
+--    twice_fit          a call that fits, made again if it is declined with 27, fits
 --    read_twice         READ-TWICE: a read that its arguments allow, made again if it is declined with 27, fetches the codes that it gives now
---    twice-empty        and takes none of those that were fetched away
---    write-twice        what a write, made again if it is declined with 27, leaves of the codes that were fetched
+--    twice_empty        and takes none of those that were fetched away
+--    write_twice        what a write, made again if it is declined with 27, leaves of the codes that were fetched
 -- Assumes nothing.
 use Prim.Native.Nat.{ℕ}
 use mathlib.Core.Path.{◌≡◌, refl, sym, ap, ◌∙◌}

@@ -1,9 +1,9 @@
 -- A TRANSFER ALTERS THE MACHINE at its beginning, when it wakes it, and at its stop.
 --
---    awake-still       if some access isn't declined with 27, one of no bytes alters nothing
---    begins-wakes      so the calls of a beginning leave what that one leaves
---    transfer-wakes    WAKES: the beginning of a transfer wakes a panel that sleeps, and alters none that doesn't
---    takes-nothing, gives_nothing, drops-nothing    what else happens in a transfer alters nothing
+--    awake_still       if some access isn't declined with 27, one of no bytes alters nothing
+--    begins_wakes      so the calls of a beginning leave what that one leaves
+--    transfer_wakes    WAKES: the beginning of a transfer wakes a panel that sleeps, and alters none that doesn't
+--    takes_nothing, gives_nothing, drops_nothing    what else happens in a transfer alters nothing
 -- Assumes nothing.
 use Prim.Native.Nat.{ℕ}
 use mathlib.Core.Path.{◌≡◌, refl, sym}

@@ -1,8 +1,8 @@
 -- THE WIRE AND THE HOST: what a wire knows of a transfer is what its host knows.
 --
 --    Wired w h      the wire w and the host h have the same transfer open
---    wired-start    at the start
---    wired-reads, wired-writes, wired-takes, wired-gives, wired-idle    after each step
+--    wired_start    at the start
+--    wired_reads, wired_writes, wired_takes, wired_gives, wired_idle    after each step
 -- Assumes nothing.
 use Prim.Native.Nat.{ℕ, zero, suc, ◌+◌, ◌≤◌, ◌<◌}
 use native.Mathlib.Omega.{arith}

@@ -1,11 +1,11 @@
 -- A WRITE ON THE BUS is one write, unless the panel slept.
 --
---    sending-calls       bytes that come make no call
+--    sending_calls       bytes that come make no call
 --    Collected a l v     the wire v has collected the bytes l for the address a, as far as there was room
---    collected-none, collected-more, collected-all    so it is behind the address, with one byte more, and with all
---    write-cut           a write of more bytes than there is room for is declined like one of as many as there is room for
---    collected-made      the stop makes one write, of the bytes collected
---    whole-write         ONE-WRITE: so a write on the bus is one write
+--    collected_none, collected_more, collected_all    so it is behind the address, with one byte more, and with all
+--    write_cut_lem           a write of more bytes than there is room for is declined like one of as many as there is room for
+--    collected_made      the stop makes one write, of the bytes collected
+--    whole_write         ONE-WRITE: so a write on the bus is one write
 -- Assumes nothing.
 use Prim.Native.Nat.{ℕ, suc, ◌+◌, ◌≤◌, ◌<◌}
 use native.Mathlib.Omega.{arith}

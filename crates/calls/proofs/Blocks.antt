@@ -3,12 +3,12 @@
 --    later k b                      the block b, with k looks done before it
 --    left n m s k                   what n looks give, k of them done, m being the module that these left
 --    eight                          the eight samples of the next look, as the code cuts them out
---    left-all                       before the first look
---    left-next, left-stop           a look is done, or declined
---    left-none                      after the last look
+--    left_all                       before the first look
+--    left_next, left_stop           a look is done, or declined
+--    left_none                      after the last look
 --    Walked d size s n a b k        the same on the parts of a module, whatever its mask and PORIRQ: k looks have made b of a
 --    walked_none, walked_next, walked_stop, walked_all    before the first look, a look is done, or declined, and after the last
---    looks-declined, looks-done     a block that is declined before its first look, and one that is not
+--    looks_declined, looks_done     a block that is declined before its first look, and one that is not
 -- Assumes nothing.
 use Prim.Native.Nat.{ℕ, suc, ◌+◌, ◌-◌, ◌*◌, ◌<◌, ◌/◌}
 use native.Mathlib.Omega.{arith}

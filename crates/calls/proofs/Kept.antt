@@ -3,11 +3,11 @@
 --    bare                        a sound module without its mask and PORIRQ is sound
 --    still                       keys out of the size are still, as a look asks
 --    Held size q                 what soundness asks of the queue q, whose keys are in the size
---    put-held, putAll-held       codes of keys in the size are put into such a queue
---    key-kept                    a key's contact after a look
---    changes-in                  a look's changes are of keys in the size
---    noticed-kept                the flags after a look with a change
---    looked-kept                 THE MODULE AFTER A LOOK
+--    put_held, put_all_held       codes of keys in the size are put into such a queue
+--    key_kept                    a key's contact after a look
+--    changes_in                  a look's changes are of keys in the size
+--    noticed_kept                the flags after a look with a change
+--    looked_kept                 THE MODULE AFTER A LOOK
 -- Assumes nothing.
 use Prim.Native.Nat.{ℕ, zero, suc, ◌+◌, ◌<◌, ◌≤◌}
 use native.Mathlib.Numerals.{add-one}

@@ -1,14 +1,14 @@
 -- What a call hands back, as its returns meet it.
 --
---    unsound-first, sound-then        the first line of every call but reset; unsound-access: of an access
---    asleep-first, awake-then         the second line of every access
---    outcome-done, outcome-declined   a call that is done, and one that is declined
---    accessed-done, accessed-asleep, accessed-declined    an access that is done, one of a panel that sleeps, and one that is declined otherwise
+--    unsound_first, sound_then        the first line of every call but reset; unsound-access: of an access
+--    asleep_first, awake_then         the second line of every access
+--    outcome_done, outcome_declined   a call that is done, and one that is declined
+--    accessed_done, accessed_asleep, accessed_declined    an access that is done, one of a panel that sleeps, and one that is declined otherwise
 --    woke n                           the state that a call hands back is awake
---    read-awake, write-awake          an access's own lines don't give 27
---    answer-done, answer-declined     the same of a question
---    drive-done, drive-declined       the question what is driven
---    buffer-done, buffer-declined     the buffer after a read
+--    read_awake, write_awake          an access's own lines don't give 27
+--    answer_done, answer_declined     the same of a question
+--    drive_done, drive_declined       the question what is driven
+--    buffer_done, buffer_declined     the buffer after a read
 -- Assumes nothing.
 use Prim.Native.Nat.{ℕ}
 use mathlib.Core.Path.{◌≡◌, refl, sym, ap, ◌∙◌}

@@ -1,10 +1,10 @@
 -- What the definitions say, by lists written out.
 --
---    examples-packed, examples-read    each list of the table packs to its bytes, and its bytes are read as the list
+--    examples_packed, examples_read    each list of the table packs to its bytes, and its bytes are read as the list
 --    none_read                         bytes that are no list
---    F0-walked                         two resets, place by place; beyond the last bit there is nothing
---    first-by-order, ..                the writer's numbers
---    rest-stays, all-stays             what it leaves in the buffer
+--    F0_walked                         two resets, place by place; beyond the last bit there is nothing
+--    first_by_order, ..                the writer's numbers
+--    rest_stays, all_stays             what it leaves in the buffer
 -- Assumes nothing.
 use Prim.Native.Nat.{ℕ}
 use mathlib.Core.Path.{◌≡◌, refl}

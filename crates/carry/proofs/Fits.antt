@@ -1,10 +1,10 @@
 -- Which calls a list can hold: those that none of 1 to 4 declines.
 --
 --    typed c          the call's numbers are of their types: samples of 16 bits, an address and bytes of 8
---    fits-passes      a call that fits is passed by its lines
---    unfit-declined   a call that is typed and doesn't fit is declined by one
---    list-passes      calls that fit are all passed
---    writer-done      and are written if there is room
+--    fits_passes      a call that fits is passed by its lines
+--    unfit_declined   a call that is typed and doesn't fit is declined by one
+--    list_passes      calls that fit are all passed
+--    writer_done      and are written if there is room
 -- Assumes nothing.
 use Prim.Native.Nat.{ℕ, zero, suc, ◌≤◌, ◌<◌}
 use native.Mathlib.Omega.{arith}

@@ -1,16 +1,16 @@
 -- Laws of the packed call list.
 --
---    size-look, size-write, size-read    how long a record is
---    told-packed       the record of a call that fits tells that call, whatever is behind it
---    packed-told       what bits tell has those bits as its record
+--    size_look, size_write, size_read    how long a record is
+--    told_packed       the record of a call that fits tells that call, whatever is behind it
+--    packed_told       what bits tell has those bits as its record
 --    fits_told         and fits
 --    Written cs bits   the bits are the records of cs, which fit, and fewer than eight bits 0
---    calls-enough      a bound on the records that is large enough doesn't matter
---    boundary-read     the reader at a boundary, with no bound
---    read-written      a list that is packed and read is the list
+--    calls_enough      a bound on the records that is large enough doesn't matter
+--    boundary_read     the reader at a boundary, with no bound
+--    read_written      a list that is packed and read is the list
 --    written_read      bytes that are read and packed are the bytes, and the calls fit
---    packing-bytes     a packed list is bytes
---    twenty-exactly    nothing is read from just the bytes that are no packing
+--    packing_bytes     a packed list is bytes
+--    twenty_exactly    nothing is read from just the bytes that are no packing
 -- Assumes nothing.
 use Prim.Native.Nat.{ℕ, zero, suc, ◌+◌, ◌*◌, ◌-◌, ◌/◌, ◌≤◌, ◌<◌}
 use native.Mathlib.Omega.{arith}

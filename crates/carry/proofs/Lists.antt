@@ -1,17 +1,17 @@
 -- Laws of a call as numbers, and of lists of calls.
 --
---    firsts-length, firsts-take         how many they are; they are the front of a list that is long enough
---    firsts-all                         numbers with others behind them, as many as they are
---    lent-rest                          what is lent of a list, from a place to its end
---    front-copied                       a list of 32 numbers, each replaced by the next one of another
---    call-there                         call i of a list, from its numbers
---    is-look, is-write, is_read, is-reset   the call that numbers tell, by its kind
---    carried-fits                       the numbers of a call that fits tell that call
---    spelled-low                        numbers modulo 256 have the same eight bits
+--    firsts_length, firsts_take         how many they are; they are the front of a list that is long enough
+--    firsts_all                         numbers with others behind them, as many as they are
+--    lent_rest                          what is lent of a list, from a place to its end
+--    front_copied                       a list of 32 numbers, each replaced by the next one of another
+--    call_there                         call i of a list, from its numbers
+--    is_look, is_write, is_read, is_reset   the call that numbers tell, by its kind
+--    carried_fits                       the numbers of a call that fits tell that call
+--    spelled_low                        numbers modulo 256 have the same eight bits
 --    begun ws i                         the first i calls of a list of numbers
---    begun-none, begun-next, begun_all  none of them, one more, all
---    begun-rest                         a list begins with its first calls
---    call-within                        a call of the list has its 35 numbers in it
+--    begun_none, begun_next, begun_all  none of them, one more, all
+--    begun_rest                         a list begins with its first calls
+--    call_within                        a call of the list has its 35 numbers in it
 -- Assumes nothing.
 use Prim.Native.Nat.{ℕ, zero, suc, ◌+◌, ◌-◌, ◌*◌, ◌/◌, ◌%◌, ◌≤◌, ◌<◌}
 use native.Mathlib.Numerals.{add-one}

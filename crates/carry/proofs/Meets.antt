@@ -1,6 +1,6 @@
 -- Our carrier meets the statements.
 --
---    ours-carries     the statements of request E1
+--    ours_carries     the statements of request E1
 --    examples-pack    each list of the table packs to its bytes, and its bytes are read as the list
 -- Assumes nothing.
 use Prim.Native.Nat.{ℕ, ◌+◌, ◌*◌, ◌/◌, ◌%◌}

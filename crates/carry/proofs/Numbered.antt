@@ -1,6 +1,6 @@
 -- Every list of calls that fit is told by a list of numbers.
 --
---    listed-numbered    the numbers of calls that fit, 35 a call, tell those calls
+--    listed_numbered    the numbers of calls that fit, 35 a call, tell those calls
 -- Assumes nothing.
 use Prim.Native.Nat.{ℕ, zero, suc, ◌+◌, ◌-◌, ◌*◌, ◌/◌, ◌≤◌, ◌<◌}
 use native.Mathlib.Omega.{arith}

@@ -2,15 +2,15 @@
 --
 --    lowered values i                        the first i of 32 numbers as bytes, then 0
 --    lowered_none, lowered-next, lowered-all none of them; one more; all
---    look-count, write-count, read_count     a call that fits has at most 32 samples or bytes
---    step-look, step-write, ..               the step of each kind, as the call gives it
---    carried-told, told-fits                 the numbers of what is told tell it, and fit
+--    look_count, write_count, read_count     a call that fits has at most 32 samples or bytes
+--    step_look, step_write, ..               the step of each kind, as the call gives it
+--    carried_told, told_fits                 the numbers of what is told tell it, and fit
 --    play_on m o                              the module m after the calls o, if there are any to be had
---    play-front, play-end, play-more         playing from the front, at the end, and on behind a record
---    next-there                              in a list the next record is all there
---    play-next                               playing on from the next boundary
---    play-done, play-declined                what the player hands back, by the check's number
---    played, not-played                      the state that the calls of a list give, one after the other; 20 for what is no list
+--    play_front, play_end, play_more         playing from the front, at the end, and on behind a record
+--    next_there                              in a list the next record is all there
+--    play_next                               playing on from the next boundary
+--    play_done, play_declined                what the player hands back, by the check's number
+--    played, not_played                      the state that the calls of a list give, one after the other; 20 for what is no list
 -- Assumes nothing.
 use Prim.Native.Nat.{ℕ, zero, suc, ◌+◌, ◌*◌, ◌-◌, ◌/◌, ◌%◌, ◌≤◌, ◌<◌}
 use native.Mathlib.Nat.{sub-zero}

@@ -1,21 +1,21 @@
 -- Laws of the reader.
 --
 --    kind_told k bytes p              the call of a record of the kind k, as a number, at the place p
---    look-size, look-call, ..        how long the record of each kind is, and its call as numbers
+--    look_size, look_call_lem, ..        how long the record of each kind is, and its call as numbers
 --    count_low                       a count less one is at most 31
---    end-long, end_short             eight bits or more are no end; fewer are the end if they spell 0
---    list-end, list-cut, list-more   bits at a boundary are a list, are none, or are one just if those behind the record are
---    check-cut, check-list           the number of what is no list; what has the number 0 is a list
---    check-exactly, check-either     0 for just the bytes that are a list; the number is 0 or 20
+--    end_long, end_short             eight bits or more are no end; fewer are the end if they spell 0
+--    list_end, list_cut, list_more   bits at a boundary are a list, are none, or are one just if those behind the record are
+--    check_cut, check_list           the number of what is no list; what has the number 0 is a list
+--    check_exactly, check_either     0 for just the bytes that are a list; the number is 0 or 20
 --    Next bytes p s whole            at the place p a record of s bits is next; its bits are all there, or not
 --    Boundary bytes byte bit         a place between records
 --    bytes_from bytes byte            the bytes from one on
---    bits-here, end-here, size-here, next_here     what is told of the bytes from one on
---    place-next                      the place behind a record
---    boundary-front, boundary-next, boundary-less  the front is a boundary; so is the place behind a record, and nearer to the end
---    check-end, check-short          the number, told at a boundary: at the end, or at a record that is cut short
---    place_in, place-beyond          a place in the list, and one beyond its last bit
---    record-high, record-beyond, record-end, record-short, record-call     what is found at a place
+--    bits_here, end_here, size_here, next_here     what is told of the bytes from one on
+--    place_next                      the place behind a record
+--    boundary_front, boundary_next, boundary_less  the front is a boundary; so is the place behind a record, and nearer to the end
+--    check_end, check_short          the number, told at a boundary: at the end, or at a record that is cut short
+--    place_in, place_beyond          a place in the list, and one beyond its last bit
+--    record_high, record_beyond, record_end, record_short, record_call     what is found at a place
 --    walked                          a list that can be read is walked from the front: its calls, then its end
 -- Assumes nothing.
 use Prim.Native.Nat.{ℕ, zero, suc, ◌+◌, ◌*◌, ◌-◌, ◌/◌, ◌%◌, ◌^◌, ◌≤◌, ◌<◌}

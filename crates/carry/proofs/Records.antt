@@ -1,15 +1,15 @@
 -- Laws of one call: its number, its size, and its record laid into a buffer part by part.
 --
---    count-done                                     a count that neither 3 nor 4 declines
---    own-declines                                   no line of a call gives the number of a call that is done
+--    count_done                                     a count that neither 3 nor 4 declines
+--    own_declines                                   no line of a call gives the number of a call that is done
 --    not_eight_lem, eight                               a look's samples, where they are not eight, and where they are
---    own-look, own-access, own-reset                the number of a call, by its kind
---    look-fits, write-fits, read_fits               the count of a call that isn't declined
---    bits-look, bits-write, bits-read, bits-reset   how many bits its record has
+--    own_look, own_access, own_reset                the number of a call, by its kind
+--    look_fits, write_fits, read_fits               the count of a call that isn't declined
+--    bits_look, bits_write, bits_read, bits_reset   how many bits its record has
 --    header c kind                                  what is laid of an access before its bytes
---    both-laid                                      bits laid behind bits that were laid
---    access-laid                                    the kind, the address and the count of an access
---    look-laid, write-laid, read-laid, reset-laid   the whole record
+--    both_laid                                      bits laid behind bits that were laid
+--    access_laid                                    the kind, the address and the count of an access
+--    look_laid, write_laid, read_laid, reset_laid   the whole record
 -- Assumes nothing.
 use Prim.Native.Nat.{ℕ, ◌+◌, ◌-◌, ◌*◌, ◌%◌, ◌≤◌}
 use native.Mathlib.Decide.{ℕ_discrete}

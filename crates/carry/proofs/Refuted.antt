@@ -1,6 +1,6 @@
 -- NO WRONG CARRIER OF specs/Wrong.antt MEETS THE STATEMENTS: for each a short list by which it is seen. ALL COMPUTED.
 --
---    mirrored-refuted, ..      no wrong carrier meets the statements
+--    mirrored_refuted, ..      no wrong carrier meets the statements
 -- Assumes nothing.
 use Prim.Native.Nat.{ℕ}
 use native.Mathlib.Omega.{arith}

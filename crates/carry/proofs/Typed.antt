@@ -1,8 +1,8 @@
 -- Lists of 16-bit numbers: their calls are of the code's types, and what the writer packs of them is read back.
 --
---    listed-typed     the calls of a list of 16-bit numbers are typed
---    list-fits        typed calls that are all passed fit
---    packed-back      what the writer packs is read as the list that it was
+--    listed_typed     the calls of a list of 16-bit numbers are typed
+--    list_fits        typed calls that are all passed fit
+--    packed_back_lem      what the writer packs is read as the list that it was
 -- Assumes nothing.
 use Prim.Native.Nat.{ℕ, zero, suc, ◌+◌, ◌*◌, ◌/◌, ◌%◌}
 use native.Mathlib.Decide.{ℕ_discrete}

@@ -1,18 +1,18 @@
 -- Laws of the writer: the number of a list of calls, their records laid into a buffer, and what `pack` and `add` give.
 --
---    list-declines                  no line of a list's calls is that of a done call
---    list-none, list-next           the number of no calls is 0, and of one more that isn't declined
---    list-declined                  the first call that is declined gives the number
---    own-done                       no call of a list that isn't declined is
---    records-none, records-next     the records of no calls, and of one more
---    place-next, room_next          the place behind one record more, and the room for it
---    none-laid, records-laid        the records of no calls are laid, and one record more
---    back-laid                      bits laid into the part of a buffer from a byte on, and the part given back
---    packing-length, place-bytes    how many bytes a packed list has; how many a place takes
---    pack-declined, pack-no-room, pack-done               what `pack` gives
---    test-no, test-yes                                    a test of room
---    add-declined, add-no-place, add-no-room, add_done    what `add` gives
---    added, added-place             calls that are added one by one are the packed list
+--    list_declines                  no line of a list's calls is that of a done call
+--    list_none, list_next           the number of no calls is 0, and of one more that isn't declined
+--    list_declined                  the first call that is declined gives the number
+--    own_done                       no call of a list that isn't declined is
+--    records_none, records_next     the records of no calls, and of one more
+--    place_next, room_next          the place behind one record more, and the room for it
+--    none_laid, records_laid        the records of no calls are laid, and one record more
+--    back_laid                      bits laid into the part of a buffer from a byte on, and the part given back
+--    packing_length, place_bytes    how many bytes a packed list has; how many a place takes
+--    pack_declined, pack_no_room, pack_done               what `pack` gives
+--    test_no, test_yes                                    a test of room
+--    add_declined, add_no_place, add_no_room, add_done    what `add` gives
+--    added, added_place             calls that are added one by one are the packed list
 -- Assumes nothing.
 use Prim.Native.Nat.{ℕ, ◌+◌, ◌-◌, ◌*◌, ◌/◌, ◌%◌, ◌≤◌, ◌<◌}
 use native.Mathlib.Decide.{ℕ_discrete}

@@ -1,11 +1,11 @@
 -- Lists of codes, written out and computed.
 --
---    codes-right       0x00 is the press of key 0 and 0x80 its release; 0x0D, 0x7F and 0xFF are no codes
---    agrees-right      a press agrees while its key is up, a release while it is down, and what is no code never
---    after-right       a code changes its own key alone; keys_down t: the keys down in a table
---    leading-right     where a list's first byte stands that is no code
---    agreeing-right    where a list's first code stands that doesn't agree
---    opposite-right    the other code of the same key, and back, of all 208 codes
+--    codes_right       0x00 is the press of key 0 and 0x80 its release; 0x0D, 0x7F and 0xFF are no codes
+--    agrees_right      a press agrees while its key is up, a release while it is down, and what is no code never
+--    after_right       a code changes its own key alone; keys_down t: the keys down in a table
+--    leading_right     where a list's first byte stands that is no code
+--    agreeing_right    where a list's first code stands that doesn't agree
+--    opposite_right    the other code of the same key, and back, of all 208 codes
 -- Assumes nothing.
 use Prim.Native.Nat.{ℕ, zero, suc}
 use mathlib.Core.Path.{◌≡◌, refl}

@@ -1,20 +1,20 @@
 -- Laws of lists of codes.
 --
---    code-key-low                                the key that a code speaks of is a key
---    agrees-no, agrees-yes                       what is no code agrees with no table; a code agrees by what its key was
---    after-out, after-length                     a code of no key leaves a table as it was; every code leaves its length
---    after-told                                  a table's keys after a code, as the replay tells them
---    leading-most, leading-all                   at most all items lead; fewer than all exactly if one fails
---    leading_end, leading-stop, leading-go       a list walked from the front: its end, an item that stops, one that is passed
---    agreeing-most                               at most all codes agree
---    agreeing-end, agreeing-stop, agreeing-go    the same walk, with the keys that are down
---    agreeing-legal                              of codes, fewer than all agree exactly if the list isn't legal
---    down-replayed                               of codes, the keys down after them are those of the replay
---    agreeing-legal-from, down-replayed-from     the same two, with keys down at first
---    opposite-press, opposite-release            the opposite of a press, and of a release
---    opposite-back                               the opposite's opposite
---    opposite-key, opposite-good, opposite-says  it is of the same key, a code if that is one, and says the contrary
---    opposite-code                               it is the code of the contrary change
+--    code_key_low                                the key that a code speaks of is a key
+--    agrees_no, agrees_yes                       what is no code agrees with no table; a code agrees by what its key was
+--    after_out, after_length                     a code of no key leaves a table as it was; every code leaves its length
+--    after_told                                  a table's keys after a code, as the replay tells them
+--    leading_most, leading_all                   at most all items lead; fewer than all exactly if one fails
+--    leading_end, leading_stop, leading_go       a list walked from the front: its end, an item that stops, one that is passed
+--    agreeing_most                               at most all codes agree
+--    agreeing_end, agreeing_stop, agreeing_go    the same walk, with the keys that are down
+--    agreeing_legal                              of codes, fewer than all agree exactly if the list isn't legal
+--    down_replayed                               of codes, the keys down after them are those of the replay
+--    agreeing_legal_from, down_replayed_from     the same two, with keys down at first
+--    opposite_press, opposite_release            the opposite of a press, and of a release
+--    opposite_back                               the opposite's opposite
+--    opposite_key, opposite_good, opposite_says  it is of the same key, a code if that is one, and says the contrary
+--    opposite_code                               it is the code of the contrary change
 -- Assumes nothing.
 use Prim.Native.Nat.{ℕ, suc, ◌+◌, ◌-◌, ◌/◌, ◌%◌, ◌<◌, ◌≤◌}
 use native.Mathlib.Decide.{dec_lt, ℕ_discrete}

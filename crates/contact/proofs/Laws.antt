@@ -1,27 +1,27 @@
 -- The run is enough: the step over the run follows the rule over the history.
 --
---    changes-run      the rule, said by the run
---    run-enough       one step from a history's held and run is held and run of the longer history
---    carried-held     so the step, carried over any history with D varying at every look, is the rule
---    hidden-keeps     at a look without a sample nothing changes
---    step-rests       an open contact with no run stays so if it is hidden or reads open
---    look-enough      run-enough for a look at which there may be no sample
+--    changes_run      the rule, said by the run
+--    run_enough       one step from a history's held and run is held and run of the longer history
+--    carried_held     so the step, carried over any history with D varying at every look, is the rule
+--    hidden_keeps     at a look without a sample nothing changes
+--    step_rests       an open contact with no run stays so if it is hidden or reads open
+--    look_enough      run-enough for a look at which there may be no sample
 --    through l        a contact carried through looks at which there may be no sample
---    through-existing, through-rule    that is the step carried over the samples that exist, and so the rule over these
---    through-changes  it changes at a look exactly when its sample exists there and its last D existing ones are all the opposite
---    through-low      its run is at most 254
---    settling-run     a contact is settling exactly when it has a run
---    settling-existing    after looks it is settling exactly when its newest existing sample differs from how it is held
---    step-changed     a contact that changed is held as the look shows it
---    changed-settled  and it isn't settling then
---    step-settling    a test tells settling exactly if it tells a run
---    told-by-moved    so what a look needs of a test tells the test
---    sight-opposite, sight-turned, sight-kept    a change at such a look is to the opposite, and how the contact is held afterwards
---    sample-low, step-low    a step's run is at most 254, whatever the run was
---    run-low          no run is above 254, if every KBDBOUNCE is a byte
---    changes-to       a contact changes to what its newest sample is
+--    through_existing, through_rule    that is the step carried over the samples that exist, and so the rule over these
+--    through_changes  it changes at a look exactly when its sample exists there and its last D existing ones are all the opposite
+--    through_low      its run is at most 254
+--    settling_run     a contact is settling exactly when it has a run
+--    settling_existing    after looks it is settling exactly when its newest existing sample differs from how it is held
+--    step_changed     a contact that changed is held as the look shows it
+--    changed_settled  and it isn't settling then
+--    step_settling    a test tells settling exactly if it tells a run
+--    told_by_moved    so what a look needs of a test tells the test
+--    sight_opposite, sight_turned, sight_kept    a change at such a look is to the opposite, and how the contact is held afterwards
+--    sample_low, step_low    a step's run is at most 254, whatever the run was
+--    run_low          no run is above 254, if every KBDBOUNCE is a byte
+--    changes_to       a contact changes to what its newest sample is
 --    other            a sample that isn't as held is the opposite
---    opposite-flips, opposite-stays    the other way is the opposite, and the same is not
+--    opposite_flips, opposite_stays    the other way is the opposite, and the same is not
 --    reached, ahead   the tests of the code, said as the step's
 -- Assumes nothing.
 use Prim.Native.Nat.{ℕ, zero, suc, ◌+◌, ◌≤◌, ◌<◌}

@@ -1,11 +1,11 @@
 -- What can be seen of the module that the sheet writes down is what the sheet says.
 --
---    held-shown       a key is held
---    waiting-shown    the codes that wait
---    ris-shown, mis-shown, line-shown, irqst-shown    the flags, the interrupt line and the IRQ status register
---    nth-same         the picture's register, worded in two ways
---    picture-shown    the picture
---    byte-shown       THE BYTE THAT A READ OF ANY REGISTER GIVES, if it can be read
+--    held_shown       a key is held
+--    waiting_shown    the codes that wait
+--    ris_shown, mis_shown, line_shown, irqst_shown    the flags, the interrupt line and the IRQ status register
+--    nth_same         the picture's register, worded in two ways
+--    picture_shown    the picture
+--    byte_shown       THE BYTE THAT A READ OF ANY REGISTER GIVES, if it can be read
 -- Assumes nothing.
 use Prim.Native.Nat.{ℕ, zero, suc, ◌+◌, ◌<◌}
 use native.Mathlib.Omega.{arith}

@@ -1,12 +1,12 @@
 -- A BLOCK IS ITS LOOKS, for any machine whose blocks meet their demand.
 --
---    blocks-only         the demand allows one outcome of a block alone
---    singles-leads, singles-stopped    the looks of a block that are done, and the one that is declined
---    block-few           they are at most those that it has samples for
---    wide-demand1        DEMAND 1 WITH ITS EXCEPTIONS, of a machine that meets it for calls and whose blocks meet theirs
+--    blocks_only         the demand allows one outcome of a block alone
+--    singles_leads, singles_stopped    the looks of a block that are done, and the one that is declined
+--    block_few           they are at most those that it has samples for
+--    wide_demand1        DEMAND 1 WITH ITS EXCEPTIONS, of a machine that meets it for calls and whose blocks meet theirs
 --    spelled_same        after acts the state, the past and the codes fetched are those after the calls that they are spelled
---    reads-as-looks      so what holds after every list of calls holds after every list of acts
---    wide-demands        DEMANDS 2 AND 3
+--    reads_as_looks      so what holds after every list of calls holds after every list of acts
+--    wide_demands        DEMANDS 2 AND 3
 -- Assumes nothing.
 use Prim.Native.Nat.{ℕ, zero, suc, ◌+◌, ◌*◌, ◌/◌, ◌≤◌}
 use native.Mathlib.Decide.{ℕ_discrete}

@@ -1,8 +1,8 @@
 -- One byte: what it makes of the module that the sheet wrote down, once awake, is what the sheet writes down after it.
 --
---    write-shown            A BYTE WRITTEN
---    seen-mark, seen_all    one picture register more is marked as read, and whether all four are
---    read-shown             A BYTE READ
+--    write_shown            A BYTE WRITTEN
+--    seen_mark, seen_all    one picture register more is marked as read, and whether all four are
+--    read_shown             A BYTE READ
 -- Assumes nothing.
 use Prim.Native.Nat.{ℕ, zero, suc, ◌-◌, ◌≤◌}
 use native.Mathlib.Omega.{arith}

@@ -1,12 +1,12 @@
 -- A session carried plays to the state of that session.
 --
---    played-append      calls played in two parts
---    asleep-always      asleep every access gives 27; read-wakes: so a read of one byte stands for one that doesn't fit
---    noted-steps        a call's record, played, is the call: one that doesn't fit is declined, and a question alters nothing
---    recorded-plays     a session's records, played, lead to its state
---    recorded-fit       and they fit in a list
---    carries-sessions   whoever meets the statements of request E1 carries sessions
---    ours-carries-sessions    and ours does
+--    played_append      calls played in two parts
+--    asleep_always      asleep every access gives 27; read-wakes: so a read of one byte stands for one that doesn't fit
+--    noted_steps        a call's record, played, is the call: one that doesn't fit is declined, and a question alters nothing
+--    recorded_plays     a session's records, played, lead to its state
+--    recorded_fit       and they fit in a list
+--    carries_sessions   whoever meets the statements of request E1 carries sessions
+--    ours_carries_sessions    and ours does
 -- Assumes nothing.
 use Prim.Native.Nat.{ℕ, ◌≤◌}
 use native.Mathlib.Omega.{arith}

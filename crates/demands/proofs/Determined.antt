@@ -1,9 +1,9 @@
 -- DETERMINED: two outcomes that a call's contract in the source allows for the same arguments are equal.
 --
 --    Determined n ps r Post     so it is of the post-condition Post, of a call with n lifetimes, parameters ps and the result r
---    reset-determined, look-determined, write-determined, read-determined, held-determined, interrupt-determined, pins-determined, drive-determined
---    looks-determined
---    pack-determined, add-determined, check-determined, record-determined, play-determined
+--    reset_determined, look_determined, write_determined, read_determined, held_determined, interrupt_determined, pins_determined, drive_determined
+--    looks_determined
+--    pack_determined, add_determined, check_determined, record_determined, play_determined
 --
 -- Each Post is what the toolchain makes of the `ensures` lines in crates/calls/src/ and crates/carry/src/: no definition of ours stands between.
 -- Assumes nothing.

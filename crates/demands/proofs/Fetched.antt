@@ -1,11 +1,11 @@
 -- WHAT A HOST FETCHES can be read back: the codes that were fetched since the restart are codes of keys, and if none was lost each press is of a key that is up and each release of one that is down.
 --
---    demanded-good, kept-good     the demanded changes are codes, and so are those of them that were kept
---    codes-good, codes-legal      the codes fetched, followed by those that wait, on every machine that meets demand 3
---    fetched-good, fetched-legal  the codes fetched, on every machine that meets demand 3
---    fetched-cut                  so the undo reader declines them neither with 23 nor with 24
---    ours-codes-good, ours-codes-legal, ours-fetched-good, ours-fetched-legal, ours-fetched-cut    the same of ours
---    lossy, lossy-fetched         calls that lose a press and fetch its release: what was fetched then isn't legal
+--    demanded_good, kept_good     the demanded changes are codes, and so are those of them that were kept
+--    codes_good, codes_legal      the codes fetched, followed by those that wait, on every machine that meets demand 3
+--    fetched_good, fetched_legal  the codes fetched, on every machine that meets demand 3
+--    fetched_cut                  so the undo reader declines them neither with 23 nor with 24
+--    ours_codes_good, ours_codes_legal, ours_fetched_good, ours_fetched_legal, ours_fetched_cut    the same of ours
+--    lossy, lossy_fetched         calls that lose a press and fetch its release: what was fetched then isn't legal
 --
 -- Only legality asks that no change was lost; that the codes are codes holds in any case.
 -- Assumes nothing.

@@ -1,6 +1,6 @@
 -- THE DIRECT KEY HIDES ITS ROW, as a caller sees it.
 --
---    covered-held    on a machine that meets demand 2, a look with a row's special function contact closed leaves the row's other keys as they were held
+--    covered_held    on a machine that meets demand 2, a look with a row's special function contact closed leaves the row's other keys as they were held
 -- Assumes nothing.
 use Prim.Native.Nat.{ℕ, ◌+◌, ◌*◌, ◌/◌, ◌<◌, ◌≤◌}
 use native.Mathlib.Omega.{arith}

@@ -1,11 +1,11 @@
 -- One look: what it makes of the module that the sheet wrote down is what the sheet writes down after it.
 --
---    contact-shown    the module's step of a key's contact is the sheet's rule over its history
---    changes-shown    the changes of the look are the sheet's
---    queue-shown      so is the queue once they are put
---    calm-shown       the look is quiet exactly when the sheet says so
---    sleep-shown      the count and the sleep are the sheet's
---    look-shown       THE LOOK
+--    contact_shown    the module's step of a key's contact is the sheet's rule over its history
+--    changes_shown    the changes of the look are the sheet's
+--    queue_shown      so is the queue once they are put
+--    calm_shown       the look is quiet exactly when the sheet says so
+--    sleep_shown      the count and the sleep are the sheet's
+--    look_shown       THE LOOK
 -- Assumes nothing.
 use Prim.Native.Nat.{ℕ, zero, suc, ◌+◌, ◌≤◌, ◌<◌, min}
 use native.Mathlib.Nat.{le_refl}

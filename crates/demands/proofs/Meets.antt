@@ -1,11 +1,11 @@
 -- OUR CALLS MEET THE DEMANDS. The demands are in specs/Demands.antt, the calls as a machine in specs/Ours.antt.
 --
---    ours-parts              what ours tell of a state is the state
---    ours-demand1            numbers, and declined calls
---    ours-never-unsound      8 is never given for a reached state
---    ours-demand2            held keys, bytes, flags and the line
---    ours-demand3            the codes
---    ours-no-silent-loss     RELINT
+--    ours_parts              what ours tell of a state is the state
+--    ours_demand1            numbers, and declined calls
+--    ours_never_unsound      8 is never given for a reached state
+--    ours_demand2            held keys, bytes, flags and the line
+--    ours_demand3            the codes
+--    ours_no_silent_loss     RELINT
 -- Assumes nothing.
 use Prim.Native.Nat.{◌+◌, ◌*◌}
 use native.Mathlib.Omega.{arith}

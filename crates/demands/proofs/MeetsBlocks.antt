@@ -1,11 +1,11 @@
 -- OUR BLOCKS MEET THE DEMANDS. The demands are in specs/Blocks.antt, ours in specs/Ours.antt.
 --
---    ours-blocks         a block gives what single looks give
---    ours-demand1-wide   DEMAND 1 WITH ITS EXCEPTIONS
---    ours-demands-wide   DEMANDS 2 AND 3, over every list of calls and blocks
---    ours-never-27-twice-wide    after 27 no access gives it again before 255 looks
---    block-number        A BLOCK'S NUMBER BY THE TABLE: 8, then 1, then 2
---    carries-acts        a session with blocks carried: it plays to its state
+--    ours_blocks         a block gives what single looks give
+--    ours_demand1_wide   DEMAND 1 WITH ITS EXCEPTIONS
+--    ours_demands_wide   DEMANDS 2 AND 3, over every list of calls and blocks
+--    ours_never_27_twice_wide    after 27 no access gives it again before 255 looks
+--    block_number        A BLOCK'S NUMBER BY THE TABLE: 8, then 1, then 2
+--    carries_acts        a session with blocks carried: it plays to its state
 -- Assumes nothing.
 use Prim.Native.Nat.{ℕ, zero, suc, ◌+◌, ◌*◌, ◌/◌, ◌%◌, ◌≤◌}
 use native.Mathlib.Omega.{arith}

@@ -1,8 +1,8 @@
 -- OUR QUESTION WHAT IS DRIVEN MEETS ITS DEMANDS. They are in specs/Pins.antt, ours in specs/Ours.antt.
 --
---    ours-drive1    its number is exact, it alters nothing, and declined it tells of no pin
---    ours-drive2    what is driven is what the sheet says, after every list of calls
---    drive-acts     the same after every list of calls and blocks
+--    ours_drive1    its number is exact, it alters nothing, and declined it tells of no pin
+--    ours_drive2    what is driven is what the sheet says, after every list of calls
+--    drive_acts     the same after every list of calls and blocks
 -- Assumes nothing.
 use mathlib.Core.Path.{◌≡◌, refl, ap, ◌∙◌}
 use mathlib.Core.Bool.{true}

@@ -1,10 +1,10 @@
 -- OUR PANEL SLEEPS AS THE SHEET SAYS, and no panel that does so declines twice. The demands are in specs/Sleep.antt.
 --
---    ours-sleeps            27 exactly while the sheet says so, and the sheet's count
---    noted-row              a call adds at most one to the row of quiet looks, if it is a look, and else nothing
---    never-27-twice         after 27 no access gives it again before 255 looks were made, of any machine that sleeps as the sheet says
---    ours-never-27-twice    and of ours
---    never-27-twice-wide    the same over calls and blocks, of any machine with blocks that meets the demands
+--    ours_sleeps            27 exactly while the sheet says so, and the sheet's count
+--    noted_row              a call adds at most one to the row of quiet looks, if it is a look, and else nothing
+--    never_27_twice         after 27 no access gives it again before 255 looks were made, of any machine that sleeps as the sheet says
+--    ours_never_27_twice    and of ours
+--    never_27_twice_wide    the same over calls and blocks, of any machine with blocks that meets the demands
 -- Assumes nothing.
 use Prim.Native.Nat.{ℕ, zero, suc, ◌+◌, ◌≤◌}
 use native.Mathlib.Omega.{arith}

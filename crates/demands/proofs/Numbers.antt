@@ -2,10 +2,10 @@
 --
 --    Decides b P                 the Bool b is true exactly when P holds
 --    Joined lines rs             the lines and the rows have the same numbers, and each Bool decides its proposition
---    lines-first                 THE GENERAL LAW: the number of the lines is that of the first row that holds
---    first-only                  and no other number is
+--    lines_first                 THE GENERAL LAW: the number of the lines is that of the first row that holds
+--    first_only                  and no other number is
 --    refused                     what a Bool decides that is denied
---    decide_true, decide_eq, decide-ne, decide-lt    what a flag and the comparisons decide
+--    decide_true, decide_eq, decide_ne, decide_lt    what a flag and the comparisons decide
 -- Assumes nothing.
 use Prim.Native.Nat.{ℕ, ◌<◌}
 use mathlib.Core.Path.{◌≡◌, refl, sym, ◌∙◌}

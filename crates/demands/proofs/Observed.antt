@@ -1,14 +1,14 @@
 -- WHAT A CALLER SEES after a list of calls is what the sheet says.
 --
---    bytes_read_lem, bytes-observed    the bytes of a read that may be done, and of a done one
---    read-sleeps, write-sleeps     an access is declined with 27 exactly while the sheet says that the panel sleeps
+--    bytes_read_lem, bytes_observed    the bytes of a read that may be done, and of a done one
+--    read_sleeps, write_sleeps     an access is declined with 27 exactly while the sheet says that the panel sleeps
 --    read_done                     a read that its arguments allow is done while it doesn't
 --    waking cs                     the calls that lead to the state once awake
---    waking-same, waking-awake     they alter nothing but the sleep, and the panel is awake after them; waiting-waking: the same codes wait
---    awake-bytes                   so the bytes of a read that its arguments allow are the sheet's
---    held-observed, line-observed  the answers to the questions
---    fetched-taken                 the codes really fetched are those that the sheet says were taken
---    seen-waiting                  those that a read of 15 would give are those that wait
+--    waking_same, waking_awake     they alter nothing but the sleep, and the panel is awake after them; waiting-waking: the same codes wait
+--    awake_bytes                   so the bytes of a read that its arguments allow are the sheet's
+--    held_observed, line_observed  the answers to the questions
+--    fetched_taken                 the codes really fetched are those that the sheet says were taken
+--    seen_waiting                  those that a read of 15 would give are those that wait
 -- Assumes nothing.
 use Prim.Native.Nat.{ℕ, zero, suc, ◌+◌, ◌*◌, ◌/◌, ◌%◌, ◌≤◌}
 use native.Mathlib.Omega.{arith}

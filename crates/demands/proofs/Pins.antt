@@ -1,11 +1,11 @@
 -- The spare pins: what is made of the pins' part that the sheet wrote down is what the sheet writes down, and what can be seen of it is what the sheet says.
 --
---    kept-shown, pending-shown, level-shown, newest-shown    at every register that has a place, and at every pin
---    written-shown                 A BYTE WRITTEN to one of the pins' registers
---    sampled-shown                 THE PINS ARE SAMPLED
---    raised-shown                  an enabled edge is pending
---    pins-byte-shown               the byte that a read of one of the pins' registers gives, if it can be read
---    driven-shown, levels-shown    the pins that are driven, and those that are driven to 1
+--    kept_shown, pending_shown, level_shown, newest_shown    at every register that has a place, and at every pin
+--    written_shown                 A BYTE WRITTEN to one of the pins' registers
+--    sampled_shown                 THE PINS ARE SAMPLED
+--    raised_shown                  an enabled edge is pending
+--    pins_byte_shown               the byte that a read of one of the pins' registers gives, if it can be read
+--    driven_shown, levels_shown    the pins that are driven, and those that are driven to 1
 -- Assumes nothing.
 use Prim.Native.Nat.{ℕ, ◌+◌, ◌/◌, ◌<◌, ◌≤◌}
 use native.Mathlib.Decide.{dec_lt}

@@ -1,10 +1,10 @@
 -- Laws of the queue's places, for the list of codes that wait.
 --
---    places-put, places-shift    a code is put behind those that wait, and the oldest is taken out
---    waiting-places              the codes that wait are read back from the places
+--    places_put, places_shift    a code is put behind those that wait, and the oldest is taken out
+--    waiting_places              the codes that wait are read back from the places
 --    came l r                    the queue once the codes l came, one after the other, r being RELINT before
---    came-few, came-over         if they are at most 15, all of them wait; one that comes when 15 wait sets RELINT
---    put-came, putAll-came       one code more comes, and several
+--    came_few, came_over         if they are at most 15, all of them wait; one that comes when 15 wait sets RELINT
+--    put_came, put_all_came       one code more comes, and several
 -- Assumes nothing.
 use Prim.Native.Nat.{ℕ, zero, suc, ◌+◌, ◌-◌, ◌≤◌, ◌<◌}
 use native.Mathlib.Decide.{dec_lt}

@@ -1,15 +1,15 @@
 -- OUR CALLS AND THE SHEET: after every list of calls the module is the one that the sheet writes down for what has happened.
 --
---    read_some, write-some        an access that is done has bytes
---    read-run, write-run          and no address that can't be accessed so; write-fit: and no bad byte for KBDSIZE
---    writes-after, reads-after    the bytes of an access, one by one
+--    read_some, write_some        an access that is done has bytes
+--    read_run, write_run          and no address that can't be accessed so; write-fit: and no bad byte for KBDSIZE
+--    writes_after, reads_after    the bytes of an access, one by one
 --    bytes_after                  the bytes that a read gives
---    called-after                 one call
+--    called_after                 one call
 --    reached                      EVERY LIST OF CALLS
---    reached-fitting              the bytes written fit, so that reached modules are sound
---    reached-sound                a reached module is sound; reached-said: so document 01's sentences hold of it
---    reached-typed                and it is as the struct's types say
---    read-done, held-done, line-done    so these calls are done
+--    reached_fitting              the bytes written fit, so that reached modules are sound
+--    reached_sound                a reached module is sound; reached-said: so document 01's sentences hold of it
+--    reached_typed                and it is as the struct's types say
+--    read-done, held_done, line_done    so these calls are done
 -- Assumes nothing.
 use Prim.Native.Nat.{ℕ, zero, suc, ◌<◌}
 use native.Mathlib.Omega.{arith}

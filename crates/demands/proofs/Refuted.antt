@@ -1,9 +1,9 @@
 -- NO WRONG MACHINE OF specs/Wrong.antt MEETS THE DEMANDS: for each a short list of calls after which it is seen.
 --
---    built-usual                with our own effects the machine that is built is ours
+--    built_usual                with our own effects the machine that is built is ours
 --    rows, pressed, ..          the calls, newest first
 --    Told, told                 what is found of each machine, and what was to be found: ALL COMPUTED
---    declining-refuted, ..      no wrong machine meets the demand
+--    declining_refuted, ..      no wrong machine meets the demand
 -- Assumes nothing.
 use Prim.Native.Nat.{ℕ, ◌≤◌}
 use native.Mathlib.Omega.{arith}

@@ -3,7 +3,7 @@
 --    start, one, other, bad     the state, and looks: a key pressed, a second one, and samples with bit 13
 --    told b                     what is seen of a block: its number, how many looks were done, how many codes wait
 --    Found, found               what is found of each, and what was to be found: ALL COMPUTED
---    rolling-back-refuted, ..   no wrong block meets the demand
+--    rolling_back_refuted, ..   no wrong block meets the demand
 -- Assumes nothing.
 use Prim.Native.Nat.{ℕ}
 use mathlib.Core.Path.{◌≡◌, refl, sym, ap, ◌∙◌}

@@ -1,10 +1,10 @@
 -- NO WRONG MACHINE OF specs/WrongHidden.antt MEETS THE DEMANDS: for each a short list of calls after which it is seen.
 --
---    looked-by               with our own contacts such a look is ours
+--    looked_by_lem               with our own contacts such a look is ours
 --    rows                    a look with these samples of rows 0 and 1, the other rows open
 --    Told, told              what is found of each machine, and what was to be found: ALL COMPUTED
---    before-refuted, ..      no wrong machine meets demand 3
---    raw-alike, raw-looked, raw_same    a row out of the size that hid its own keys couldn't be told: they are open, and stay so
+--    before_refuted, ..      no wrong machine meets demand 3
+--    raw_alike, raw_looked, raw_same    a row out of the size that hid its own keys couldn't be told: they are open, and stay so
 -- Assumes nothing.
 use Prim.Native.Nat.{ℕ, zero, suc, ◌/◌, ◌%◌, ◌<◌, ◌≤◌}
 use native.Mathlib.Nat.{le_refl}

@@ -3,7 +3,7 @@
 --    rising, dark             the calls, newest first
 --    SampleWrong              a declined sample alters the module
 --    Told, told               what is found of each machine, and what was to be found: ALL COMPUTED
---    keypad-edge-refuted, ..  no wrong machine meets the demand
+--    keypad_edge_refuted, ..  no wrong machine meets the demand
 -- Assumes nothing.
 use Prim.Native.Nat.{ℕ}
 use native.Mathlib.Omega.{arith}

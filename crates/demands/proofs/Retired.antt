@@ -1,9 +1,9 @@
 -- NUMBER 9 IS GIVEN BY NO CALL, and the numbers are the same without its line.
 --
---    falls-means          the old condition in words: some key out of the size changes
---    nine-never           it is false of every sound state, whatever the samples
---    same-without-nine    the old lines and the new give the same number, for every state and every list of samples
---    no-call-gives-nine   no call gives 9, whatever the state
+--    falls_means          the old condition in words: some key out of the size changes
+--    nine_never           it is false of every sound state, whatever the samples
+--    same_without_nine    the old lines and the new give the same number, for every state and every list of samples
+--    no_call_gives_nine   no call gives 9, whatever the state
 -- Assumes nothing.
 use Prim.Native.Nat.{ℕ, ◌<◌}
 use native.Mathlib.Omega.{arith}

@@ -1,15 +1,15 @@
 -- THE ROWS OF THE TABLE, for our calls: each Bool that a call judges by decides the proposition of its row.
 --
---    decide-high                "some sample has bit 13, 14 or 15 set"
---    decide-run                 "some address of the run is unknown, or can't be read or written as asked"
---    size-place                 KBDSIZE is at 0x03 and nowhere else
---    decide-sizes               "a byte for KBDSIZE isn't acceptable"
---    decide-key                 "row above 7 or column above 12"
---    decide-pins                "a pin sample with a bit above 18"
---    unsound-decided            "module state unsound": document 01's sentences, by Said
---    numbers-exact              EVERY CALL, IN EVERY STATE, gives the number of the first row that holds
---    declined-alters-nothing    a number that isn't 0 or 27 leaves state and buffer as they came, and a question's answer is no
---    refused-wakes              27 wakes the panel, and alters nothing else
+--    decide_high                "some sample has bit 13, 14 or 15 set"
+--    decide_run                 "some address of the run is unknown, or can't be read or written as asked"
+--    size_place                 KBDSIZE is at 0x03 and nowhere else
+--    decide_sizes               "a byte for KBDSIZE isn't acceptable"
+--    decide_key                 "row above 7 or column above 12"
+--    decide_pins                "a pin sample with a bit above 18"
+--    unsound_decided            "module state unsound": document 01's sentences, by Said
+--    numbers_exact              EVERY CALL, IN EVERY STATE, gives the number of the first row that holds
+--    declined_alters_nothing    a number that isn't 0 or 27 leaves state and buffer as they came, and a question's answer is no
+--    refused_wakes              27 wakes the panel, and alters nothing else
 -- Assumes nothing.
 use Prim.Native.Nat.{ℕ, suc, ◌-◌, ◌≤◌}
 use native.Mathlib.Decide.{ℕ_discrete, dec_le}

@@ -1,6 +1,6 @@
 -- THE P SESSIONS: ours give all that the table of specs/Sessions.antt says, whatever the module was before a session's reset.
 --
---    sessions-pass    P1 TO P12, computed
+--    sessions_pass    P1 TO P12, computed
 -- Assumes nothing.
 use mathlib.Core.Path.{◌≡◌, refl}
 use mathlib.Core.Bool.{true}

@@ -1,9 +1,9 @@
 -- After every past the module is exactly the one that the sheet writes down.
 --
---    reset-shown          the module after reset
---    sampling-shown       the pins are sampled
---    refused-shown        an access is refused while the panel sleeps
---    as-the-sheet-says    THE MODULE IS WHAT THE SHEET SAYS
+--    reset_shown          the module after reset
+--    sampling_shown       the pins are sampled
+--    refused_shown        an access is refused while the panel sleeps
+--    as_the_sheet_says    THE MODULE IS WHAT THE SHEET SAYS
 -- Assumes nothing.
 use Prim.Native.Nat.{ℕ}
 use mathlib.Core.Path.{◌≡◌, refl, ap, ◌∙◌}

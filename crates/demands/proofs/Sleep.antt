@@ -1,9 +1,9 @@
 -- WAKING: accesses do to a module that is woken what they do to the one that slept, and give the same bytes.
 --
---    written-woken, read-woken, byte-woken    one byte
---    wrote-woken, reads-woken, bytes-woken    all bytes of an access
---    access-asleep                            of a sound module an access gives 27 exactly while it sleeps
---    noted-cases                              what is noted of a call: what it did, a refusal that woke, or nothing
+--    written_woken, read_woken, byte_woken    one byte
+--    wrote_woken, reads_woken, bytes_woken    all bytes of an access
+--    access_asleep                            of a sound module an access gives 27 exactly while it sleeps
+--    noted_cases                              what is noted of a call: what it did, a refusal that woke, or nothing
 -- Assumes nothing.
 use Prim.Native.Nat.{ℕ, zero, suc}
 use mathlib.Core.Path.{◌≡◌, refl, sym, ap, ◌∙◌}

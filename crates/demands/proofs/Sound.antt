@@ -1,8 +1,8 @@
 -- NEVER UNSOUND: the module that the sheet writes down is sound, and no change falls on a key out of the size.
 --
---    bytes_fit, sizes-fit    what `fitting` says of the bytes written, as the sheet's laws ask for it
---    key-shown, codes-shown, rest-shown    what is asked of the keys, the codes that wait, and the unused places
---    shown-sound        THE MODULE IS SOUND, if the bytes written fit
+--    bytes_fit, sizes_fit_lem    what `fitting` says of the bytes written, as the sheet's laws ask for it
+--    key_shown, codes_shown, rest_shown    what is asked of the keys, the codes that wait, and the unused places
+--    shown_sound        THE MODULE IS SOUND, if the bytes written fit
 --    shown_typed        and is as the struct's types say
 -- Assumes nothing.
 use Prim.Native.Nat.{ℕ, ◌-◌, ◌<◌}

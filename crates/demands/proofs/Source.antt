@@ -1,9 +1,9 @@
 -- OURS IS THE SOURCE: what the contract of each of these seven functions in crates/calls/src/lib.rt allows is what the machine `ours` does, of `looks`
 -- there what the blocks of `wide` are, and of `drive` what `pinned` answers; and of the functions in crates/carry/src/, what the carrier `ours` does.
 --
---    reset-source, look-source, write-source, read-source, held-source, interrupt-source, pins-source
---    looks-source, drive-source
---    pack-source, add-source, check-source, record-source, play-source
+--    reset_source, look_source, write_source, read_source, held_source, interrupt_source, pins_source
+--    looks_source, drive_source
+--    pack_source, add_source, check_source, record_source, play_source
 --
 -- Each Post is what the toolchain makes of a function's `ensures` lines, and the function is proved to meet it. x is the result,
 -- a the arguments, e the parameters at exit.

@@ -1,11 +1,11 @@
 -- THE KEYPAD AND THE SPARE PINS LEAVE EACH OTHER ALONE, in every state, reached or not.
 --
---    pins-leave-keys      a pin sample leaves all but the pins' part; an access that begins at an address of the pins leaves the keypad's state, but for the count and the sleep; a read there the pins' part too
---    keypad-leaves-pins   a look, a block of looks, a read, and a write that begins at an address of the keypad, leaves the pins' part as it was
---    size-keeps-pins      so does a write that covers KBDSIZE, bit for bit
---    first-makes-none     the first sample after reset makes no edge
---    used-not-driven      a pin that the keypad uses isn't driven, by the answer to the question
---    kept-until-free      after an accepted size write that frees it, it is driven as its kept bits say
+--    pins_leave_keys      a pin sample leaves all but the pins' part; an access that begins at an address of the pins leaves the keypad's state, but for the count and the sleep; a read there the pins' part too
+--    keypad_leaves_pins   a look, a block of looks, a read, and a write that begins at an address of the keypad, leaves the pins' part as it was
+--    size_keeps_pins      so does a write that covers KBDSIZE, bit for bit
+--    first_makes_none     the first sample after reset makes no edge
+--    used_not_driven      a pin that the keypad uses isn't driven, by the answer to the question
+--    kept_until_free      after an accepted size write that frees it, it is driven as its kept bits say
 -- Assumes nothing.
 use Prim.Native.Nat.{ℕ, zero, suc, ◌+◌, ◌/◌, ◌<◌, ◌≤◌}
 use native.Mathlib.Decide.{ℕ_discrete, dec_lt}

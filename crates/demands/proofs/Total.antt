@@ -1,9 +1,9 @@
 -- TOTAL: the eight calls, blocks of looks, and the five of packed lists, take every value. Each Pre is what the toolchain makes of a function's `requires` lines in crates/calls/src/ and
 -- crates/carry/src/: there are none, and it holds of all arguments.
 --
---    reset-total, look-total, write-total, read-total, held-total, interrupt-total, pins-total, drive-total
---    looks-total
---    pack-total, add_total, check-total, record-total, play-total
+--    reset_total, look_total, write_total, read_total, held_total, interrupt_total, pins_total, drive_total
+--    looks_total
+--    pack_total, add_total, check_total, record_total, play_total
 -- Assumes nothing.
 use contract.Lifetimes.{Lfts}
 use borrow.Fn.Kinds.{Dens}

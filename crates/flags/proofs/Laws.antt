@@ -1,15 +1,15 @@
 -- Laws of the flags.
 --
 --    four a b c d            four flags as the bits 3 to 0 of a byte
---    weigh-times             a flag weighs its weight times, or not at all
---    four-binary             four flags are the number with these bits
---    four-bits               and back: Bits n a b c d says that the bits of the byte n are these
---    weigh-most, four-most   the most that one flag and four can weigh
---    ris-most, mis-most      "the rest 0": KBDRIS and KBDMIS are below 16
---    ris-bits                the bits of KBDRIS are the flags
---    mis-shows, mis-bits     a bit of KBDMIS is that of KBDRIS, or 0 if KBDMSK has it set
---    line-porirq, line-mis, line-pins   the line if PORIRQ is set; else, if KBDMIS isn't 0; else
---    line-irqst              the line is asserted exactly when IRQST isn't 0
+--    weigh_times             a flag weighs its weight times, or not at all
+--    four_binary             four flags are the number with these bits
+--    four_bits               and back: Bits n a b c d says that the bits of the byte n are these
+--    weigh_most, four_most   the most that one flag and four can weigh
+--    ris_most, mis_most      "the rest 0": KBDRIS and KBDMIS are below 16
+--    ris_bits_lem                the bits of KBDRIS are the flags
+--    mis_shows, mis_bits_lem     a bit of KBDMIS is that of KBDRIS, or 0 if KBDMSK has it set
+--    line_porirq, line_mis, line_pins   the line if PORIRQ is set; else, if KBDMIS isn't 0; else
+--    line_irqst              the line is asserted exactly when IRQST isn't 0
 -- Assumes nothing.
 use Prim.Native.Nat.{ℕ, zero, suc, ◌+◌, ◌*◌, ◌<◌, ◌≤◌}
 use native.Mathlib.Omega.{arith}

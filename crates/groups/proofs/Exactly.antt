@@ -1,9 +1,9 @@
 -- THE GROUP READER FOR C: what the toolchain makes of the contracts in src/lib.rt is what the calls by value give, each allows one outcome, and they ask nothing of
 -- the trim key's code, the codes, the place and the buffer.
 --
---    group-source, stretch-source, groups-source
---    group-determined, stretch-determined, groups-determined
---    group-total, stretch-total, groups-total
+--    group_source, stretch_source, groups_source
+--    group_determined, stretch_determined, groups_determined
+--    group_total, stretch_total, groups_total
 -- Assumes nothing.
 use mathlib.Core.Path.{◌≡◌, sym, ◌∙◌}
 use contract.Lifetimes.{Lfts}

@@ -1,6 +1,6 @@
 -- A law on what C is told.
 --
---    part-within    the part that an answer leads to doesn't end before it begins
+--    part_within    the part that an answer leads to doesn't end before it begins
 -- Assumes nothing.
 use Prim.Native.Nat.{ℕ, ◌≤◌}
 use native.Mathlib.Omega.{arith}

@@ -1,13 +1,13 @@
 -- Laws of what is judged by a call's arguments alone.
 --
---    high-yes, high-no                  bits 13 to 15, told by one comparison
---    fits-size, fits-other              what is asked of a byte for KBDSIZE, and of one for another register
---    sizes-end, sizes-no, sizes-yes     no byte is left; one is not acceptable; one is, and the rest decides
---    samples-decline, access-declines   no line gives the number of a call that is done
---    eight-samples                      a look whose samples are not declined has eight
---    write-access, write-rest           a write is declined as an access, or else by its bytes alone
---    read-allowed                       a read that is not declined may be done at each of its addresses
---    key-there                          a row and a column that are not declined are those of a key
+--    high_yes, high_no                  bits 13 to 15, told by one comparison
+--    fits_size, fits_other              what is asked of a byte for KBDSIZE, and of one for another register
+--    sizes_end, sizes_no, sizes_yes     no byte is left; one is not acceptable; one is, and the rest decides
+--    samples_decline, access_declines   no line gives the number of a call that is done
+--    eight_samples                      a look whose samples are not declined has eight
+--    write_access, write_rest           a write is declined as an access, or else by its bytes alone
+--    read_allowed                       a read that is not declined may be done at each of its addresses
+--    key_there                          a row and a column that are not declined are those of a key
 -- Assumes nothing.
 use Prim.Native.Nat.{ℕ, ◌+◌, ◌/◌, ◌%◌, ◌≤◌, ◌<◌}
 use native.Mathlib.Numerals.{add-one}

@@ -1,22 +1,22 @@
 -- Laws of keys.
 --
---    key-yes, no_row, no-col        there is such a key, or there is none
---    key_row, key-col               row and column of a key are in range
---    press-no, press-yes            the code tells whether there is such a key; press-low: it is at most 0x7F
---    row-yes, col-yes               row and column of a key number; row-no, col-no: of no key
---    row_low, col-low               they are in range; key-low: and so is the number of a key
---    place-row, place-col           row and column of the key that stands there
---    key_back, back-row, back-col   the key number, and back
---    press-is, release-is           the codes of a key
---    code-key                       the key of a change's code is the key that changed
---    code-place                     the code of a change, by the key's row and column
---    code-low                       a press is at most 0x7F; code-byte: every code is a byte
+--    key_yes, no_row, no_col        there is such a key, or there is none
+--    key_row, key_col               row and column of a key are in range
+--    press_no, press_yes            the code tells whether there is such a key; press-low: it is at most 0x7F
+--    row_yes, col_yes               row and column of a key number; row-no, col-no: of no key
+--    row_low, col_low               they are in range; key-low: and so is the number of a key
+--    place_row, place_col           row and column of the key that stands there
+--    key_back, back_row, back_col   the key number, and back
+--    press_is, release_is           the codes of a key
+--    code_key                       the key of a change's code is the key that changed
+--    code_place                     the code of a change, by the key's row and column
+--    code_low                       a press is at most 0x7F; code-byte: every code is a byte
 --    sample_out                     out of the size a sample counts as open
---    special-low, special-row, special-col    the special function key of a row is a key, and not of the matrix
---    special-own, special-same      it is a key itself that is not of the matrix, and so its own
---    hidden-matrix, hidden-special  a key of the matrix is hidden while its row's special function contact is closed; that one never is
---    hidden-own                     no other contact matters
---    rows-most                      an acceptable size has at most 8 rows
+--    special_low, special_row, special_col    the special function key of a row is a key, and not of the matrix
+--    special_own, special_same      it is a key itself that is not of the matrix, and so its own
+--    hidden_matrix, hidden_special  a key of the matrix is hidden while its row's special function contact is closed; that one never is
+--    hidden_own                     no other contact matters
+--    rows_most                      an acceptable size has at most 8 rows
 --    code_in                        by its row and column, or by the number of its key, a code is of a key in the size
 -- Assumes nothing.
 use Prim.Native.Nat.{ℕ, ◌+◌, ◌*◌, ◌/◌, ◌%◌, ◌≤◌, ◌<◌}

@@ -1,11 +1,11 @@
 -- Laws of the replay.
 --
---    press-says        a change's code says what the key changed to
+--    press_says        a change's code says what the key changed to
 --    told_same         the code of a key's own change tells it that
---    told-other        the code of another key's change leaves it as it was
---    replayed-append   codes, then more codes
---    legal-append      the same of legality
---    legal-one         the code of a change is legal if the key was the opposite
+--    told_other        the code of another key's change leaves it as it was
+--    replayed_append   codes, then more codes
+--    legal_append      the same of legality
+--    legal_one         the code of a change is legal if the key was the opposite
 -- Assumes nothing.
 use Prim.Native.Nat.{ℕ, ◌+◌, ◌*◌, ◌<◌}
 use native.Mathlib.Omega.{arith}

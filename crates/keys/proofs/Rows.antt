@@ -1,7 +1,7 @@
 -- What holds of every key, row by row: f tells it of a key's number, g of the columns of one row.
 --
---    rows-yes   it holds of the rows below and of this one
---    rows-no    it fails in this row, and so it doesn't hold of all keys
+--    rows_yes   it holds of the rows below and of this one
+--    rows_no    it fails in this row, and so it doesn't hold of all keys
 -- Assumes nothing.
 use Prim.Native.Nat.{ℕ, ◌+◌, ◌*◌, ◌<◌}
 use native.Mathlib.Omega.{arith}

@@ -1,10 +1,10 @@
 -- The number of a list of lines.
 --
 --    given, only                    `number_of` is the table's sentence, both ways
---    line-yes, line-no, lines_end   the first line decides; it is passed; none is left
+--    line_yes, line_no, lines_end   the first line decides; it is passed; none is left
 --    declining l                    no line of the list l gives the number of a call that is done; declining-both: nor does one of two lists
---    first-decides, rest-decides    of two lists the first declines the call; it passes the call on, and the rest decides
---    line-false                     a call that is done has passed each of its lines
+--    first_decides, rest_decides    of two lists the first declines the call; it passes the call on, and the rest decides
+--    line_false                     a call that is done has passed each of its lines
 --    lacks k l                      k is the number of no line of the list l, nor that of a call that is done; never-given: so they don't give it
 -- Assumes nothing.
 use Prim.Native.Nat.{ℕ}

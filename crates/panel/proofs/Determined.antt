@@ -1,9 +1,9 @@
 -- DETERMINED: two outcomes that the contract of an exported function allows for the same arguments are equal.
 --
 --    two_facts    what follows from two propositions follows from the assertions of both
---    look-determined, looks-determined, write-determined, read-determined, held-determined, interrupt-determined, pins-determined, drive-determined, reset-determined
---    wire-ahead-determined, wire-listens-determined, wire-takes-determined, wire-gives-determined, wire-ends-determined, wire-drops-determined
---    pack-determined, add-determined, unpack-determined
+--    look_determined, looks_determined, write_determined, read_determined, held_determined, interrupt_determined, pins_determined, drive_determined, reset_determined
+--    wire_ahead_determined, wire_listens_determined, wire_takes_determined, wire_gives_determined, wire_ends_determined, wire_drops_determined
+--    pack_determined, add_determined, unpack_determined
 --
 -- An outcome is the result, x or y, and what everything lent to be altered holds at exit, e or f. Each theorem is on the clauses that the toolchain makes of the source
 -- (proofs/Source.antt says what they are), and reads: where the `ensures` of both outcomes holds, they are the same.

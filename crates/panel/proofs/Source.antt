@@ -1,9 +1,9 @@
 -- THE EXPORTED FUNCTIONS ARE THE SOURCE: what the toolchain makes of the contracts in src/lib.rt is what specs/Lent.antt says, and for reset and what carries a session
 -- what the calls by value give.
 --
---    look-source, looks-source, write-source, read-source, held-source, interrupt-source, pins-source, drive-source, reset-source
---    wire-ahead-source, wire-listens-source, wire-takes-source, wire-gives-source, wire-ends-source, wire-drops-source
---    pack-source, add-source, unpack-source
+--    look_source, looks_source, write_source, read_source, held_source, interrupt_source, pins_source, drive_source, reset_source
+--    wire_ahead_source, wire_listens_source, wire_takes_source, wire_gives_source, wire_ends_source, wire_drops_source
+--    pack_source, add_source, unpack_source
 --
 -- `clauses` is the toolchain's own reading of a function's `ensures` and `requires` lines, and the function is proved to meet it. a are the arguments, x is the result,
 -- e what was lent, at exit; `fact` makes an assertion of a proposition. Where neither module nor wire is lent, Post is a proposition itself.

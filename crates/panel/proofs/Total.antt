@@ -1,8 +1,8 @@
 -- TOTAL: the exported functions take every value. What the toolchain makes of a contract asks nothing of the arguments.
 --
---    look-total, looks-total, write-total, read-total, held-total, interrupt-total, pins-total, drive-total, reset-total
---    wire-ahead-total, wire-listens-total, wire-takes-total, wire-gives-total, wire-ends-total, wire-drops-total
---    pack-total, add_total, unpack-total
+--    look_total, looks_total, write_total, read_total, held_total, interrupt_total, pins_total, drive_total, reset_total
+--    wire_ahead_total, wire_listens_total, wire_takes_total, wire_gives_total, wire_ends_total, wire_drops_total
+--    pack_total, add_total, unpack_total
 -- Assumes nothing.
 use mathlib.Core.Path.{◌≡◌, refl}
 use seplogic.Ra.Ura.{Ura}

@@ -1,8 +1,8 @@
 -- Laws of the picture.
 --
---    nth-first, nth-later                 what a register shows of given codes
---    read_first, read-second, read-third, read-last   the marks, looked at one by one
---    marked_all, marked-some              the fourth mark is set, and one before it
+--    nth_first, nth_later                 what a register shows of given codes
+--    read_first, read_second, read_third, read_last   the marks, looked at one by one
+--    marked_all, marked_some              the fourth mark is set, and one before it
 -- Assumes nothing.
 use Prim.Native.Nat.{ℕ, zero, suc, ◌+◌, ◌-◌, ◌≤◌, ◌<◌}
 use native.Mathlib.Numerals.{sub-one}

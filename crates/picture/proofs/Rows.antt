@@ -1,18 +1,18 @@
 -- Laws of the rows' masks.
 --
---    mask-of-row                          bit c of a row's mask is 1 exactly if the key in column c of that row is held
+--    mask_of_row                          bit c of a row's mask is 1 exactly if the key in column c of that row is held
 --    digit_low                            a bool as a number
 --    mask_from hs row col                  the mask of a row's keys from a column on, col being bit 0
---    row-left, row_next, row-whole        of it: no key is left, one more, all of them
+--    row_left, row_next, row_whole        of it: no key is left, one more, all of them
 --    row_below                            it has at most 13 bits
---    codes-none, codes-first              the codes of a mask: of 0, and of any other, the first before the rest
---    first-place, first-in                the first key's place, and its weight
---    rows-from                            the codes from a row on, by its mask and by those behind it
---    order-by-masks                       the held keys' codes, in order, are those by the rows' masks, the rows with mask 0 left out
---    more-in, row-passed                  a row's mask that is not 0, and one that is
---    more-here, more-later, more-end      whether a key is held from a row on
---    shown-from, shown-row, shown-here, shown-later, shown-end    what a register shows of the keys from a row on
---    mask-room                            there is no mask past the last row
+--    codes_none, codes_first              the codes of a mask: of 0, and of any other, the first before the rest
+--    first_place, first_in_lem                the first key's place, and its weight
+--    rows_from                            the codes from a row on, by its mask and by those behind it
+--    order_by_masks                       the held keys' codes, in order, are those by the rows' masks, the rows with mask 0 left out
+--    more_in, row_passed                  a row's mask that is not 0, and one that is
+--    more_here, more_later, more_end      whether a key is held from a row on
+--    shown_from, shown_row, shown_here, shown_later, shown_end    what a register shows of the keys from a row on
+--    mask_room                            there is no mask past the last row
 -- Assumes nothing.
 use Prim.Native.Nat.{ℕ, zero, suc, ◌+◌, ◌-◌, ◌*◌, ◌/◌, ◌%◌, ◌^◌, ◌≤◌, ◌<◌}
 use native.Mathlib.Nat.{pow-le-pow_right}

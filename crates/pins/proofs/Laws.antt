@@ -1,26 +1,26 @@
 -- Laws of the spare pins.
 --
---    within-yes, within-under, within-over    an address that is within, below and above; within-from, within-to: told from it
---    place-pulls, place-settings, place-drains, place_other    the place of a register: 0xAA on, 0xC0 on, 0xE0 on, and none
---    place-where               a register that has a place is in one of the three
---    place-below, place-below-drains    the registers at 0xC0 to 0xD4 and at 0xE0 to 0xE5 have one
---    address-place, place-address       the address of a register's place, and the place of an address
---    address-low               an address of a place is below 0x100
---    kept_at, kept-none        the byte kept at an address, by its place; 0 where there is none
---    kept-own, kept-other, kept_set     once a byte is set: at its address, elsewhere, and both in one
---    kept_table, kept_fresh, set-table  in a table by address, after reset, and a byte set in such a table
---    written-kept, written-clears       a byte written to a register that has a place, and to one that has none
---    bank-at, paired_at, drain-at       a pin's bit by places and by addresses
---    drives-used, drives-input, drives-masked, drives-whole, drives-drain    a pin that is driven, test by test
---    shows-used, shows-masked, shows-output, shows-input                     a read of GPIODATA, the same
---    edge-steady, edge-used, edge-output, edge-level, edge-both, edge-one    an edge, the same
---    clears-elsewhere, clears-here      a byte for another GPIOIC register, and for the pin's own
---    turned-next               a list of flags that is replaced from the front, one of them turned or left as it was
---    sample-next, clear_next   one pin more is sampled, one pin more is cleared
+--    within_yes, within_under, within_over    an address that is within, below and above; within-from, within-to: told from it
+--    place_pulls, place_settings, place_drains, place_other    the place of a register: 0xAA on, 0xC0 on, 0xE0 on, and none
+--    place_where               a register that has a place is in one of the three
+--    place_below, place_below_drains    the registers at 0xC0 to 0xD4 and at 0xE0 to 0xE5 have one
+--    address_place, place_address       the address of a register's place, and the place of an address
+--    address_low               an address of a place is below 0x100
+--    kept_at, kept_none        the byte kept at an address, by its place; 0 where there is none
+--    kept_own, kept_other, kept_set     once a byte is set: at its address, elsewhere, and both in one
+--    kept_table, kept_fresh, set_table  in a table by address, after reset, and a byte set in such a table
+--    written_kept, written_clears       a byte written to a register that has a place, and to one that has none
+--    bank_at, paired_at, drain_at       a pin's bit by places and by addresses
+--    drives_used, drives_input, drives_masked, drives_whole, drives_drain    a pin that is driven, test by test
+--    shows_used, shows_masked, shows_output, shows_input                     a read of GPIODATA, the same
+--    edge_steady, edge_used, edge_output, edge_level, edge_both, edge_one    an edge, the same
+--    clears_elsewhere, clears_here      a byte for another GPIOIC register, and for the pin's own
+--    turned_next               a list of flags that is replaced from the front, one of them turned or left as it was
+--    sample_next, clear_next   one pin more is sampled, one pin more is cleared
 --    word_none, word_next, word_below   a word that is put together from the top
---    reads-data, reads-raw, reads-masked, reads_kept    a read, by the address; data-within: which addresses GPIODATA has
---    word_same, byte-same, some_same    where flags agree at every pin
---    bank-same, paired_same, drain-same, drives-same, high_same, edge_same, shows_same, masked_same, raised-same, reads_same
+--    reads_data, reads_raw, reads_masked, reads_kept    a read, by the address; data-within: which addresses GPIODATA has
+--    word_same, byte_same, some_same    where flags agree at every pin
+--    bank_same, paired_same, drain_same, drives_same, high_same, edge_same, shows_same, masked_same, raised_same, reads_same
 --                              where also bytes agree, at every register that has a place
 -- Assumes nothing.
 use Prim.Native.Nat.{ℕ, ◌+◌, ◌-◌, ◌*◌, ◌/◌, ◌%◌, ◌^◌, ◌≤◌, ◌<◌}

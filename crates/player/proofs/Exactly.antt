@@ -1,6 +1,6 @@
 -- THE PLAYER FOR C: what the toolchain makes of its contract in src/lib.rt is what the player by value gives, it allows one outcome, and it asks nothing of the bytes.
 --
---    play-source, play-determined, play-total
+--    play_source, play_determined, play_total
 -- Assumes nothing.
 use mathlib.Core.Path.{◌≡◌, sym, ◌∙◌}
 use contract.Lifetimes.{Lfts}

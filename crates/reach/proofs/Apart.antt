@@ -3,15 +3,15 @@
 --
 --    unpinned m                the state m, with the pins as after reset
 --    apart m p z               the state m, with these pins, and this count and sleep
---    as-after-reset            a state that is awake, with a count of 0, and with the pins as after reset, is `keypad` of itself
+--    as_after_reset            a state that is awake, with a count of 0, and with the pins as after reset, is `keypad` of itself
 --    Counts z                  a count and a sleep as soundness asks for them
---    typed-apart, said-apart   no pin has a part in the struct's types, as far as they are asked for, or in soundness, nor have the count and the sleep any other part in it
---    woken-sound               so a sound state is sound once awake
---    calm-apart                whether a look is quiet depends on neither
+--    typed_apart, said_apart   no pin has a part in the struct's types, as far as they are asked for, or in soundness, nor have the count and the sleep any other part in it
+--    woken_sound               so a sound state is sound once awake
+--    calm_apart                whether a look is quiet depends on neither
 --    unpinned-look, woken-look a look
---    wrote-apart, read-apart   the bytes of an access, from two states with the same keypad
---    pins-apart                EVERY CALL, AND THE PINS
---    sleep-apart               EVERY CALL THAT THE SLEEP DOESN'T DECLINE, AND THE SLEEP
+--    wrote_apart, read_apart   the bytes of an access, from two states with the same keypad
+--    pins_apart                EVERY CALL, AND THE PINS
+--    sleep_apart               EVERY CALL THAT THE SLEEP DOESN'T DECLINE, AND THE SLEEP
 -- Assumes nothing.
 use Prim.Native.Nat.{ℕ, zero, suc, ◌≤◌}
 use native.Mathlib.Omega.{arith}

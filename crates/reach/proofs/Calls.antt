@@ -4,11 +4,11 @@
 --    place r          the address of a register
 --    wake             an access of no bytes: awake it alters nothing, asleep it wakes
 --    calls_of past     the calls that make a past, a byte each, and one that wakes the panel before each
---    calls-types      their values are of the calls' types; types-fit: as the demands ask
---    look-made        a look is done; write-made, read_made: so is an access after one that wakes
---    calls-after      so they lead to the module after that past
---    reached-by       THE THEOREM: calls that reach the state with the keypad of a given sound state, awake, with a count of 0, and with the pins as after reset
---    of-every         so what holds of every state that calls reach holds of every such state
+--    calls_types      their values are of the calls' types; types-fit: as the demands ask
+--    look_made        a look is done; write-made, read_made: so is an access after one that wakes
+--    calls_after      so they lead to the module after that past
+--    reached_by       THE THEOREM: calls that reach the state with the keypad of a given sound state, awake, with a count of 0, and with the pins as after reset
+--    of_every         so what holds of every state that calls reach holds of every such state
 -- Assumes nothing.
 use Prim.Native.Nat.{ℕ, zero, suc, ◌+◌, ◌<◌}
 use native.Mathlib.Omega.{arith}

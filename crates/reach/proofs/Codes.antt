@@ -2,13 +2,13 @@
 --
 --    put h k p        the keys h, with k put so
 --    lone k p         every key open, with k put so
---    lone-clear       from one way to the other: k is not hidden, and what is hidden is open and stays so
---    off-clear        a look with all keys open hides none
+--    lone_clear       from one way to the other: k is not hidden, and what is hidden is open and stays so
+--    off_clear        a look with all keys open hides none
 --    begin            KBDBOUNCE 1, then the size
 --    turned           a look that turns a lone key: its code is added
 --    Waits z w        after some past, with some keys held, the codes w wait
 --    filled           n codes, whatever they are: the first row's special function key pressed and released in turn
---    told-code        a code of a key in the size, as key and way
+--    told_code        a code of a key in the size, as key and way
 --    one_more_lem         if 15 wait, the oldest goes and a given code comes: every key is first opened, then the one put the other way,
 --                     unheard since 15 wait, then a code is fetched, and then the key is put as the code says
 --    all_more         the same for a list of codes

@@ -1,9 +1,9 @@
 -- THE DEMANDS COVER EVERY SOUND STATE that is awake, with a count of 0, and with the pins as after reset, not only those after a list of calls that one has in hand.
 --
---    sleep-kept           a call leaves the count and the sleep as soundness asks for them
---    sound-kept           a call leaves a sound state sound, whatever sound state it was: its pins, its count and its sleep
---    shows-everywhere     demand 2: every sound state, awake, with a count of 0, and with the pins as after reset, shows what the sheet gives for some past that calls can make
---    codes-everywhere     demand 3: for some calls that reach such a state, the codes fetched by them and those that wait are the changes demanded, less those that came when 15 waited
+--    sleep_kept           a call leaves the count and the sleep as soundness asks for them
+--    sound_kept           a call leaves a sound state sound, whatever sound state it was: its pins, its count and its sleep
+--    shows_everywhere     demand 2: every sound state, awake, with a count of 0, and with the pins as after reset, shows what the sheet gives for some past that calls can make
+--    codes_everywhere     demand 3: for some calls that reach such a state, the codes fetched by them and those that wait are the changes demanded, less those that came when 15 waited
 -- Assumes nothing.
 use Prim.Native.Nat.{ℕ}
 use native.Mathlib.Decide.{ℕ_discrete}

@@ -1,15 +1,15 @@
 -- SOUND IS REACHED, no more and no less: a state of the struct's type is sound exactly when calls from reset reach the one with its keypad,
 -- awake, with a count of 0, and with the pins as after reset.
 --
---    reached-by (proofs/Calls.antt)    that state is reached, if the given one is sound
+--    reached_by (proofs/Calls.antt)    that state is reached, if the given one is sound
 --    back             a reached state is sound, and of the struct's type
---    sound-is-reached    both, as specs/Reach.antt has them
---    next-reached     one call more
---    reached-itself   a sound state whose count is 0, and whose pins are as after reset, is reached itself
+--    sound_is_reached    both, as specs/Reach.antt has them
+--    next_reached     one call more
+--    reached_itself   a sound state whose count is 0, and whose pins are as after reset, is reached itself
 --    unreached        a state that isn't sound is reached by no calls; unsound: one whose keypad no calls reach isn't sound
 --    least            a test that never fails after calls from reset holds of every sound state that is awake, with a count of 0, and with the pins as after reset
 --    onward           calls from a state that others reach are calls that come later
---    from-sound       so calls from such a state are calls from reset that come later
+--    from_sound       so calls from such a state are calls from reset that come later
 -- Assumes nothing.
 use native.Mathlib.Omega.{arith}
 use mathlib.Core.Path.{◌≡◌, refl, sym, ap, ◌∙◌, subst}

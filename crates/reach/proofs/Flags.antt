@@ -6,10 +6,10 @@
 --    flat h           the keys h, with every special function key open
 --    all_set          the matrix as wanted, then the special function keys, which hide nothing that is not yet so;
 --                     then the first row's special function key there and back: every flag is set
---    two-flags        RSINT and RKLINT as wanted: by KBDIC bit 0, by a read of the four, or by KBDIC between there and back
---    any-flags        and RELINT, by KBDIC bit 1
---    fetch-all        codes fetched
---    any-marks        picture registers read
+--    two_flags        RSINT and RKLINT as wanted: by KBDIC bit 0, by a read of the four, or by KBDIC between there and back
+--    any_flags        and RELINT, by KBDIC bit 1
+--    fetch_all        codes fetched
+--    any_marks        picture registers read
 -- Assumes nothing.
 use Prim.Native.Nat.{ℕ, ◌<◌}
 use native.Mathlib.Omega.{arith}

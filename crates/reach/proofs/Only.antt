@@ -1,7 +1,7 @@
 -- EVERY SOUND STATE'S KEYPAD, awake, with a count of 0, and with the pins as after reset, is one that the sheet writes down, for a past that calls can make.
 --
---    marked-seen   the marks, as the state's four
---    same-shown    the sheet's state, field by field
+--    marked_seen   the marks, as the state's four
+--    same_shown    the sheet's state, field by field
 --    codes         the codes that wait; known: and all else but KBDMSK and PORIRQ
 --    only          THE WHOLE STATE, but for the pins, the count and the sleep
 -- Assumes nothing.

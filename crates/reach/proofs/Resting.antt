@@ -1,13 +1,13 @@
 -- WHICH COUNTS ARE REACHED: of the sound states with the pins as after reset, those that have a count of 0, or no run.
 --
 --    NoRun m          no key has a run
---    quiet-rests      on the sheet: while the row of quiet looks isn't empty, no key has a run
---    counting-rests   so after calls no key has a run while the count is above 0
---    unreached-restless    a state with a count above 0 and a run above 0 is reached by no calls, sound or not
---    step-rests       a contact without a run that reads as its key is held, or is hidden, stays so
---    counted-on       a look at which every contact reads so adds one to the count, and alters nothing else, if no key has a run
---    reached-resting  so a sound state without a run, and with the pins as after reset, is reached, whatever its count
---    reached-exactly  A SOUND STATE WITH SUCH PINS IS REACHED EXACTLY IF ITS COUNT IS 0 OR IT HAS NO RUN
+--    quiet_rests      on the sheet: while the row of quiet looks isn't empty, no key has a run
+--    counting_rests   so after calls no key has a run while the count is above 0
+--    unreached_restless    a state with a count above 0 and a run above 0 is reached by no calls, sound or not
+--    step_rests       a contact without a run that reads as its key is held, or is hidden, stays so
+--    counted_on       a look at which every contact reads so adds one to the count, and alters nothing else, if no key has a run
+--    reached_resting  so a sound state without a run, and with the pins as after reset, is reached, whatever its count
+--    reached_exactly  A SOUND STATE WITH SUCH PINS IS REACHED EXACTLY IF ITS COUNT IS 0 OR IT HAS NO RUN
 -- Assumes nothing.
 use Prim.Native.Nat.{ℕ, zero, suc, ◌+◌, ◌<◌, ◌≤◌, min}
 use native.Mathlib.Decide.{dec_lt}

@@ -6,11 +6,11 @@
 --    shows b s n      how many of the last n looks show the row; shows-hidden, shows_more: of one look more
 --    due b s n        that key's run when n looks are still to come; due-run: one look less
 --    reads p v m      a key of the matrix reads the opposite of how it is held in the last v looks that show it; reads-run: its run
---    as-planned       a look at a key of either kind, which does not change
+--    as_planned       a look at a key of either kind, which does not change
 --    at_rest          an open key that is to have no run reads open, as those out of the size do
 --    none_yet, all_there    the runs before all the looks, and after them
 --    on n, runs n     the samples of look n, and the runs when n looks are still to come
---    slow-keys        look n makes the runs n of the runs n + 1; slow-flags: and the flags and marks stay
+--    slow_keys        look n makes the runs n of the runs n + 1; slow-flags: and the flags and marks stay
 --    any_runs         all the looks
 -- Assumes nothing.
 use Prim.Native.Nat.{ℕ, zero, suc, ◌+◌, ◌-◌, ◌≤◌, ◌<◌, min}

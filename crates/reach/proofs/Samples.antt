@@ -3,7 +3,7 @@
 --    samples_of f    eight samples: key k is closed if f k
 --    Within z f     f closes no key out of the size z
 --    told           if so, a look with them sees f
---    told-hidden    a look with them hides the keys of the matrix in the rows whose special function key f closes
+--    told_hidden    a look with them hides the keys of the matrix in the rows whose special function key f closes
 --    eight          they are eight
 --    narrow, u16s   they have no bit above 12, and are of the type u16
 -- Assumes nothing.

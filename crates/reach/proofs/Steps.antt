@@ -7,13 +7,13 @@
 --    none             the run of every key is 0
 --    quick, slow      a look at a contact under KBDBOUNCE 1, its run being 0, and under 255 while its run is below 254
 --    calm, unseen     a contact that did not change, and so one that was hidden
---    no-changes, one-change    a look's changes if no key changes, and if one does
---    known-made       what a look makes of a key, by what is known of the past
+--    no_changes, one_change    a look's changes if no key changes, and if one does
+--    known_made       what a look makes of a key, by what is known of the past
 --    Clear z h f      a look with the samples of f, the keys being h, hides no key that is not yet as f says
---    clear-open       so if f closes no special function key
---    clear-one        so if f differs from h in one key alone, and this one is not hidden
---    look-to          such a look makes the keys as f says
---    look-full        the same while 15 codes wait: none is added
+--    clear_open       so if f closes no special function key
+--    clear_one        so if f differs from h in one key alone, and this one is not hidden
+--    look_to          such a look makes the keys as f says
+--    look_full        the same while 15 codes wait: none is added
 --    look_one         the look's changes, if f differs in one key
 -- Assumes nothing.
 use Prim.Native.Nat.{ℕ, zero, suc, ◌+◌, ◌-◌, ◌≤◌, ◌<◌}

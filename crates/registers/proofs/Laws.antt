@@ -1,14 +1,14 @@
 -- Laws of addresses and of runs of them.
 --
 --    run_end             an access of no bytes has no address
---    run-no, run-yes     the first address decides, or the rest does
+--    run_no, run_yes     the first address decides, or the rest does
 --    run_in from to a n   do n bytes from the address a on all lie in the registers from one address up to another?
---    before-run, past-run, in-run, run-from, run-to    which runs do
---    picture-from, picture-to    of the picture's four registers
---    keypad-below, pin-from      below 0x91 the registers are the keypad's, and from there on the pins'
---    pin-known, pin-known-write  a register of the pins that can be read, and one that can be written
---    next-pin            behind an address of the pins comes the next one
---    reads-pulls, reads-settings, reads-edges, reads-drains    those of the pins that can be read one after another
+--    before_run, past_run, in_run, run_from, run_to    which runs do
+--    picture_from, picture_to    of the picture's four registers
+--    keypad_below, pin_from      below 0x91 the registers are the keypad's, and from there on the pins'
+--    pin_known, pin_known_write  a register of the pins that can be read, and one that can be written
+--    next_pin            behind an address of the pins comes the next one
+--    reads_pulls, reads_settings, reads_edges, reads_drains    those of the pins that can be read one after another
 --    no_address, small   above 0xFF there is no register; the number of a picture register fits a byte
 -- Assumes nothing.
 use Prim.Native.Nat.{ℕ, zero, suc, ◌+◌, ◌-◌, ◌≤◌, ◌<◌}

@@ -1,14 +1,14 @@
 -- Laws of a look.
 --
---    putAll-none                with no code to put the queue stays as it is
+--    put_all_none                with no code to put the queue stays as it is
 --    below_more                 one key more
---    below-queue, below-some    what one key more does to the queue, and to whether there is a change
---    out-rests                  an open contact with no run, out of the size, stays so, and isn't settling
---    hidden-keeps               a key that is hidden at a look keeps how it is held and its run, doesn't change, and is settling if it has a run
---    changed-sample             a key that changes is held as its sample says
---    calm-stirred               a look is quiet unless there is a change or a contact is settling
---    looked-noticed             the state after a look: keys, queue and count, and the flags if there is a change
---    looked-sleep               the count and the sleep after a look
+--    below_queue, below_some    what one key more does to the queue, and to whether there is a change
+--    out_rests                  an open contact with no run, out of the size, stays so, and isn't settling
+--    hidden_keeps               a key that is hidden at a look keeps how it is held and its run, doesn't change, and is settling if it has a run
+--    changed_sample             a key that changes is held as its sample says
+--    calm_stirred               a look is quiet unless there is a change or a contact is settling
+--    looked_noticed             the state after a look: keys, queue and count, and the flags if there is a change
+--    looked_sleep               the count and the sleep after a look
 -- Assumes nothing.
 use Prim.Native.Nat.{ℕ, ◌+◌}
 use native.Mathlib.Numerals.{add-one}

@@ -1,18 +1,18 @@
 -- The code's walk over the keys, row by row.
 --
---    moved-key            what a look does to one key
---    hidden-same          a key that is hidden leaves all as it is
---    first-low            the first key that is shown is one of the row
---    row-none, row_next   a row before the first key that is shown, and from one key to the next
+--    moved_key            what a look does to one key
+--    hidden_same          a key that is hidden leaves all as it is
+--    first_low            the first key that is shown is one of the row
+--    row_none, row_next   a row before the first key that is shown, and from one key to the next
 --    rows_none, rows_next    the rows before the first, and from one to the next
 --    done m s k           what a look alters, once the keys below k are done
 --    done_none            before the first key
---    done-rows            after the rows of the size
---    done-rest            the rows out of the size are still
+--    done_rows            after the rows of the size
+--    done_rest            the rows out of the size are still
 --    done_all             after the last key this is the state after the look
 --    walked               so it is after the rows of the size
---    runs_none, runs-next, runs-all    some key has a run: before the first key, from one to the next, and after the last
---    settles-runs         some contact is settling after a look exactly if some key has a run then
+--    runs_none, runs_next, runs_all    some key has a run: before the first key, from one to the next, and after the last
+--    settles_runs         some contact is settling after a look exactly if some key has a run then
 --    after m p z          the state m with these parts, and with this count and sleep
 -- Assumes nothing.
 use Prim.Native.Nat.{ℕ, zero, suc, ◌+◌, ◌-◌, ◌*◌, ◌/◌, ◌<◌, ◌≤◌}

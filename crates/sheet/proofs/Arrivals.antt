@@ -1,11 +1,11 @@
 -- Laws of arrivals.
 --
---    room-yes, room-no                        there is room, or there is none
---    codes-append, kept_append, lost-append   arrivals, then more arrivals
---    codes-arriving                           every change arrives, in order
---    kept-arriving                            while there is room a change is kept, then none is
---    lost-arriving                            one is lost exactly when there are more than there is room for
---    all-kept                                 if none is lost, all are kept
+--    room_yes, room_no                        there is room, or there is none
+--    codes_append, kept_append, lost_append   arrivals, then more arrivals
+--    codes_arriving                           every change arrives, in order
+--    kept_arriving                            while there is room a change is kept, then none is
+--    lost_arriving                            one is lost exactly when there are more than there is room for
+--    all_kept                                 if none is lost, all are kept
 -- Assumes nothing.
 use Prim.Native.Nat.{ℕ, suc, ◌+◌, ◌-◌, ◌≤◌, ◌<◌}
 use native.Mathlib.Decide.{dec_lt}

@@ -1,7 +1,7 @@
 -- A LOOK AT ONE KEY, on the sheet.
 --
 --    contact_of s past k    key k's contact after a look: how it is held, its run, whether it changed, and whether it is settling
---    contact-right         it is the contact's step, from how the key was held and its run
+--    contact_right         it is the contact's step, from how the key was held and its run
 -- Assumes nothing.
 use Prim.Native.Nat.{ℕ}
 use mathlib.Core.Path.{◌≡◌}

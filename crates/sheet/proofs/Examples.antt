@@ -7,7 +7,7 @@
 --    Restarts                what a restart clears and what stays
 --    FootSwitch, Lamp        a spare pin that is watched, and one that is driven
 --    Quiet, Settling, Wakes  a look that is quiet, one that isn't, and what breaks the row
---    examples-right          all of it is so
+--    examples_right          all of it is so
 -- Assumes nothing.
 use Prim.Native.Nat.{ℕ}
 use mathlib.Core.Path.{◌≡◌, refl}

@@ -1,15 +1,15 @@
 -- Facts of the sheet, for every past.
 --
 --    code_is           the code of a key's change is a code
---    changes-all       what is true of the code of every key's change is true of a look's changes
---    waiting-most      "at most 15 codes wait"
---    waiting-all       what is true of the codes of every key is true of the codes that wait
---    waiting-codes     every code that waits is one; code-real: so it is not 0x7F; waiting-bytes: and is a byte
+--    changes_all       what is true of the code of every key's change is true of a look's changes
+--    waiting_most      "at most 15 codes wait"
+--    waiting_all       what is true of the codes of every key is true of the codes that wait
+--    waiting_codes     every code that waits is one; code-real: so it is not 0x7F; waiting-bytes: and is a byte
 --    progress          a byte of EVTCODE is 0x7F only when nothing waits
---    never-all         "the four picture registers aren't all marked read"
+--    never_all         "the four picture registers aren't all marked read"
 --    mask_low          "KBDMSK is at most 0x0F"
---    after-reset       after reset every register reads as the table says
---    nth-none, nth-first, nth-next    the picture's registers, one held key after the other
+--    after_reset_lem       after reset every register reads as the table says
+--    nth_none, nth_first, nth_next    the picture's registers, one held key after the other
 -- Assumes nothing.
 use Prim.Native.Nat.{ℕ, zero, suc, ◌+◌, ◌%◌, ◌≤◌, ◌<◌}
 use native.Mathlib.Numerals.{add-one}

@@ -1,9 +1,9 @@
 -- THE DIRECT KEY HIDES ITS ROW, on the sheet.
 --
---    hidden-keeps      a key that is hidden at a look: its samples and how it is held stay, and it doesn't change
---    changed-exactly   a key changes at a look exactly when its sample exists there and its last D samples that exist are all the opposite
---    covered-row       the keys of the matrix in a row in the size are hidden at just the looks with its special function contact closed
---    covered-silent    at such a look no code comes of these keys
+--    hidden_keeps      a key that is hidden at a look: its samples and how it is held stay, and it doesn't change
+--    changed_exactly   a key changes at a look exactly when its sample exists there and its last D samples that exist are all the opposite
+--    covered_row       the keys of the matrix in a row in the size are hidden at just the looks with its special function contact closed
+--    covered_silent    at such a look no code comes of these keys
 -- Assumes nothing.
 use Prim.Native.Nat.{ℕ, ◌+◌, ◌*◌, ◌%◌, ◌/◌, ◌<◌}
 use native.Mathlib.Omega.{arith}

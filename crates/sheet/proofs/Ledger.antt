@@ -1,9 +1,9 @@
 -- DEMAND 3, its first half, for every past.
 --
---    count-waiting    how many wait is what was kept less what was taken
+--    count_waiting    how many wait is what was kept less what was taken
 --    ledger           the codes taken, then those that wait, are the demanded changes less those that came when 15 waited
---    all-demanded     the arrivals are the demanded changes, each once and in order
---    none-lost        if none was lost, the codes taken and those that wait are all of them
+--    all_demanded     the arrivals are the demanded changes, each once and in order
+--    none_lost        if none was lost, the codes taken and those that wait are all of them
 -- Assumes nothing.
 use Prim.Native.Nat.{ℕ, ◌+◌, ◌-◌, ◌≤◌}
 use native.Mathlib.Omega.{arith}

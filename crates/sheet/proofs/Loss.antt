@@ -1,8 +1,8 @@
 -- NO SILENT LOSS, for every past: RELINT is set exactly when a change was lost since the restart or since it was last cleared.
 --
---    relint-exact      RELINT is set exactly when a loss is unreported
---    all-unreported    with no write that clears RELINT since the restart, every loss is
---    no-silent-loss    so then RELINT is set exactly when a change was lost since the restart
+--    relint_exact      RELINT is set exactly when a loss is unreported
+--    all_unreported    with no write that clears RELINT since the restart, every loss is
+--    no_silent_loss    so then RELINT is set exactly when a change was lost since the restart
 -- Assumes nothing.
 use Prim.Native.Nat.{ℕ}
 use mathlib.Core.Path.{◌≡◌, refl, sym, ap, ◌∙◌}

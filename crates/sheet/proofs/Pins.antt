@@ -1,13 +1,13 @@
 -- THE SPARE PINS, on the sheet, for every past.
 --
---    line-irqst          the line is asserted exactly when IRQST isn't 0
---    unenabled-silent    while no pin is enabled, no pin raises the line
---    first-makes-none    the first sample after reset makes no edge
---    used-makes-none     a pin used by the size makes no edge
---    clears-exactly      a byte written to a register of the pins clears the edges that GPIOIC says, and no other
---    used-not-driven     a pin used by the size is not driven
---    size-keeps          a size write keeps the kept bytes, the samples and the pending edges
---    kept-until-free     after a size write a pin that is free is driven exactly as its kept bits say
+--    line_irqst          the line is asserted exactly when IRQST isn't 0
+--    unenabled_silent    while no pin is enabled, no pin raises the line
+--    first_makes_none    the first sample after reset makes no edge
+--    used_makes_none     a pin used by the size makes no edge
+--    clears_exactly      a byte written to a register of the pins clears the edges that GPIOIC says, and no other
+--    used_not_driven     a pin used by the size is not driven
+--    size_keeps          a size write keeps the kept bytes, the samples and the pending edges
+--    kept_until_free     after a size write a pin that is free is driven exactly as its kept bits say
 -- Assumes nothing.
 use Prim.Native.Nat.{ℕ, ◌+◌, ◌/◌, ◌%◌, ◌<◌}
 use mathlib.Core.Path.{◌≡◌, refl, ap}

@@ -1,11 +1,11 @@
 -- DEMAND 3, its second half, for every past.
 --
---    held-changed, held_same      a key that changes at a look is then as its sample; one that doesn't is as it was
---    change-opposite              a key changes to the opposite of what it was
---    replay-before, replay-look   a key, replayed over the changes of keys before it, and over all of a look's
---    replay-demanded              replaying the demanded changes gives the keys held now
+--    held_changed, held_same      a key that changes at a look is then as its sample; one that doesn't is as it was
+--    change_opposite              a key changes to the opposite of what it was
+--    replay_before, replay_look   a key, replayed over the changes of keys before it, and over all of a look's
+--    replay_demanded              replaying the demanded changes gives the keys held now
 --    replay                       so if none was lost, the codes do
---    legal-demanded, legal-codes  and each press is of a key that is up, each release of one that is down
+--    legal_demanded, legal_codes  and each press is of a key that is up, each release of one that is down
 -- Assumes nothing.
 use Prim.Native.Nat.{ℕ, zero, suc, ◌≤◌, ◌<◌}
 use native.Mathlib.Nat.{le_refl, not-suc-le-zero}

@@ -2,11 +2,11 @@
 --
 --    writes f past                 f is true of every byte written, with its register
 --    byte_low, size_fits             the byte is below 256; if it is for KBDSIZE, it is acceptable
---    bounce-low, size_ok           if they all do, so do the settings
---    out-open                      out of the size nothing is held and the run is 0
---    out-still, changed-in         so no key out of the size changes: one that changes is in it
---    run-low                       no run is above 254, if every byte written fits a byte
---    waiting-in                    every code that waits is of a key in the size
+--    bounce_low, size_ok           if they all do, so do the settings
+--    out_open_lem                      out of the size nothing is held and the run is 0
+--    out_still, changed_in         so no key out of the size changes: one that changes is in it
+--    run_low                       no run is above 254, if every byte written fits a byte
+--    waiting_in                    every code that waits is of a key in the size
 -- Assumes nothing.
 use Prim.Native.Nat.{ℕ, ◌≤◌}
 use native.Mathlib.Omega.{arith}

@@ -1,26 +1,26 @@
 -- THE SLEEP, on the sheet, for every past.
 --
---    settling-run          a key is settling exactly when it has a run
---    out-settled           a key out of the size is never settling
---    changed-settled       a key that changes at a look isn't settling after it
---    hidden-settles        a key hidden at a look is settling after it exactly as before
---    settled-below, below-settled    no key below n is settling, as a statement about every key, and back
---    calm-exactly          a look is calm exactly when it has no change and no key is settling after it
---    look-wakes            after a look that isn't calm the row is empty
---    access-wakes          and after a byte was written or read
---    size-wakes            so it is after a restart
---    refused-wakes         and after an access that was declined because the panel slept
---    pins-keep             a sample of the pins leaves the row
+--    settling_run          a key is settling exactly when it has a run
+--    out_settled           a key out of the size is never settling
+--    changed_settled       a key that changes at a look isn't settling after it
+--    hidden_settles        a key hidden at a look is settling after it exactly as before
+--    settled_below, below_settled    no key below n is settling, as a statement about every key, and back
+--    calm_exactly          a look is calm exactly when it has no change and no key is settling after it
+--    look_wakes            after a look that isn't calm the row is empty
+--    access_wakes          and after a byte was written or read
+--    size_wakes            so it is after a restart
+--    refused_wakes         and after an access that was declined because the panel slept
+--    pins_keep             a sample of the pins leaves the row
 --    looks_of past          how many looks are in a past
---    row-adds              a row gains at most the looks that come after it
---    row-short             a row is at most the looks since reset
---    row-refused           and at most those since the panel last refused an access
---    refused-awake         so it refuses none again before 255 looks
---    quiet-low             the count is at most 255
---    quiet-less            while the row is below 255, the count is the row and the panel is awake
---    quiet-asleep          from 255 on the count is 255 and the panel sleeps
---    quiet-sleeps          the panel sleeps exactly while the count is 255
---    look-counts           a calm look adds one to the count, up to 255; another sets it to 0
+--    row_adds              a row gains at most the looks that come after it
+--    row_short             a row is at most the looks since reset
+--    row_refused           and at most those since the panel last refused an access
+--    refused_awake         so it refuses none again before 255 looks
+--    quiet_low             the count is at most 255
+--    quiet_less            while the row is below 255, the count is the row and the panel is awake
+--    quiet_asleep          from 255 on the count is 255 and the panel sleeps
+--    quiet_sleeps          the panel sleeps exactly while the count is 255
+--    look_counts           a calm look adds one to the count, up to 255; another sets it to 0
 -- Assumes nothing.
 use Prim.Native.Nat.{ℕ, zero, suc, ◌+◌, ◌<◌, ◌≤◌, min}
 use native.Mathlib.Decide.{dec_lt, ℕ_discrete}

@@ -1,9 +1,9 @@
 -- SOUNDNESS IS WHAT DOCUMENT 01 SAYS, no more and no less.
 --
---    code-said, said-code      a byte that is judged a code of a key in the size is one, and back
---    four-said, said-four      the four marks
---    run-said, said-key        a key's run, and the key
---    sound-said, said-sound    THE STATE IS JUDGED SOUND EXACTLY WHEN THE SENTENCES HOLD
+--    code_said, said_code      a byte that is judged a code of a key in the size is one, and back
+--    four_said, said_four      the four marks
+--    run_said, said_key        a key's run, and the key
+--    sound_said, said_sound    THE STATE IS JUDGED SOUND EXACTLY WHEN THE SENTENCES HOLD
 -- Assumes nothing.
 use Prim.Native.Nat.{ℕ, zero, suc, ◌+◌, ◌*◌, ◌-◌, ◌/◌, ◌%◌, ◌≤◌, ◌<◌}
 use native.Mathlib.Omega.{arith}

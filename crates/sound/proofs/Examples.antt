@@ -1,7 +1,7 @@
 -- States that soundness must tell apart, as a table: each is the state after reset with one part changed.
 --
 --    examples          the table: a state, and whether it is sound
---    examples-right    soundness decides every row as the table says
+--    examples_right    soundness decides every row as the table says
 -- Assumes nothing.
 use Prim.Native.Nat.{ℕ, ◌-◌}
 use mathlib.Core.Path.{◌≡◌, refl}

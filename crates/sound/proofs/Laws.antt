@@ -1,9 +1,9 @@
 -- Laws of soundness.
 --
---    sound-facts, facts-sound   computed or as facts, it is the same
---    fresh-sound                the state after reset is sound
---    sound-out                  a key out of the size is open and has no run
---    keys-yes, keys-no          a row of keys is sound, or one is not
+--    sound_facts, facts_sound   computed or as facts, it is the same
+--    fresh_sound                the state after reset is sound
+--    sound_out                  a key out of the size is open and has no run
+--    keys_yes, keys_no          a row of keys is sound, or one is not
 -- Assumes nothing.
 use Prim.Native.Nat.{ℕ, ◌+◌, ◌*◌, ◌<◌}
 use native.Mathlib.Omega.{arith}

@@ -1,9 +1,9 @@
 -- Laws of the count of quiet looks, and of the sleep.
 --
---    counted-woke      a look that isn't quiet wakes the panel, and the count is 0
---    counted-awake     a quiet look below 254 is counted
---    counted-asleep    a quiet look from 254 on makes the count 255, and the panel sleeps
---    counted-least, counted-sleeps    after every look the count is at most 255, and 255 exactly while asleep
+--    counted_woke      a look that isn't quiet wakes the panel, and the count is 0
+--    counted_awake     a quiet look below 254 is counted
+--    counted_asleep    a quiet look from 254 on makes the count 255, and the panel sleeps
+--    counted_least, counted_sleeps    after every look the count is at most 255, and 255 exactly while asleep
 -- Assumes nothing.
 use Prim.Native.Nat.{◌+◌, ◌≤◌, ◌<◌, min}
 use native.Mathlib.Omega.{arith}

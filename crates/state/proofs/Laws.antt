@@ -1,9 +1,9 @@
 -- Laws of the queue.
 --
---    shift-fifteen             the code's way to shift the places
---    taken_none, taken-some    a code is taken out of an empty queue, and of one where codes wait
---    put-room, put_full        a code is put where there is room, and dropped where there is none
---    putAll-snoc               the last of several codes is put last
+--    shift_fifteen             the code's way to shift the places
+--    taken_none, taken_some    a code is taken out of an empty queue, and of one where codes wait
+--    put_room, put_full        a code is put where there is room, and dropped where there is none
+--    put_all_snoc               the last of several codes is put last
 -- Assumes nothing.
 use Prim.Native.Nat.{ℕ, zero, suc, ◌+◌, ◌-◌, ◌≤◌, ◌<◌}
 use native.Mathlib.Omega.{arith}

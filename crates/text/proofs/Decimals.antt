@@ -1,8 +1,8 @@
 -- Numbers as their digits: some computed, and the number that a number's digits tell, which is the number.
 --
---    decimal-examples    0, 9, 10, 20, 255, 65535 and 4294967295 as text
---    told-last           one digit more tells ten times as much and the digit
---    told-decimal        the digits of a number of at most ten digits tell it
+--    decimal_examples    0, 9, 10, 20, 255, 65535 and 4294967295 as text
+--    told_last           one digit more tells ten times as much and the digit
+--    told_decimal        the digits of a number of at most ten digits tell it
 -- Assumes nothing.
 use Prim.Native.Nat.{ℕ, zero, suc, ◌+◌, ◌*◌, ◌/◌, ◌%◌, ◌^◌, ◌<◌}
 use native.Mathlib.Nat.{pow-suc}

@@ -1,18 +1,18 @@
 -- Laws of the page, of a line's words and of their digits.
 --
---    wrote-end, wrote-next               a text is written byte by byte
---    listed-end, listed_next             bytes are listed one by one
---    hex-one, hex-two, hex-three, hex-four   a number of so many digits in base 16
---    up-to-end, up-to-yes, up-to-no      a line is passed up to a byte of one kind
---    up-to-most                          no further than the line's end
---    same_end, same-no, same-yes         two words of one length, compared byte by byte
---    same-apart                          words of two lengths are not the same
---    digits-end, digits-no, digits-yes   a word's digits, one by one
---    told-most                           digits behind a number never make it smaller
---    told-held                           digits behind a number that is held at a most tell the same up to that most
---    told-end, told-yes                  the number that digits tell, held at a most: no digit is left, or one more
---    product-most                        a number held at 4,294,967,296, with one digit more, is far from wrapping
---    number-none, number-no-digit, number-large, number-value   the four answers of `number_of`
+--    wrote_end, wrote_next               a text is written byte by byte
+--    listed_end, listed_next             bytes are listed one by one
+--    hex_one, hex_two, hex_three, hex_four   a number of so many digits in base 16
+--    up_to_end, up_to_yes, up_to_no      a line is passed up to a byte of one kind
+--    up_to_most                          no further than the line's end
+--    same_end, same_no, same_yes         two words of one length, compared byte by byte
+--    same_apart                          words of two lengths are not the same
+--    digits_end, digits_no, digits_yes   a word's digits, one by one
+--    told_most                           digits behind a number never make it smaller
+--    told_held                           digits behind a number that is held at a most tell the same up to that most
+--    told_end, told_yes                  the number that digits tell, held at a most: no digit is left, or one more
+--    product_most                        a number held at 4,294,967,296, with one digit more, is far from wrapping
+--    number_none, number_no_digit, number_large, number_value   the four answers of `number_of`
 -- Assumes nothing.
 use Prim.Native.Nat.{ℕ, zero, suc, ◌+◌, ◌-◌, ◌*◌, ◌/◌, ◌%◌, ◌≤◌, ◌<◌, min}
 use native.Mathlib.Nat.{mul-le-mul, le-mul_of_pos_right, min-eq_left, min-eq_right, le_trans, le_of_lt}

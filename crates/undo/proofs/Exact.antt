@@ -1,14 +1,14 @@
 -- What stands at a place, over any rule: exactly what is right there, with the number of document 02's lines in order.
 --
---    stand-number                   the answer's number is that of the lines
---    stand-exact                    the answer is exact
---    inside-exact, inside-only      25's line is true exactly where the place is before the end and nothing is right there
---    place-declined, place-done     the refusals but the last decline it; they pass it on, and it is what the marks have there
---    stand-within                   a finished group lies within the list
---    stand-one                      and no other answer is exact
---    stands-where                   of a list that is not declined, what is right at a place is the answer there
---    walk-chain                     what the walk hands out is what the question answers, place after place
---    walk-number                    the walk's number is that of the question at the list's end
+--    stand_number                   the answer's number is that of the lines
+--    stand_exact                    the answer is exact
+--    inside_exact, inside_only      25's line is true exactly where the place is before the end and nothing is right there
+--    place_declined, place_done     the refusals but the last decline it; they pass it on, and it is what the marks have there
+--    stand_within                   a finished group lies within the list
+--    stand_one                      and no other answer is exact
+--    stands_where                   of a list that is not declined, what is right at a place is the answer there
+--    walk_chain                     what the walk hands out is what the question answers, place after place
+--    walk_number                    the walk's number is that of the question at the list's end
 --    stands-.., stretch-.., walk-..  the same as the calls have it
 -- Assumes nothing.
 use Prim.Native.Nat.{ℕ, ◌+◌, ◌<◌, ◌≤◌}

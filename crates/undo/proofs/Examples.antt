@@ -1,8 +1,8 @@
 -- UNDO GROUPS AGAINST DOCUMENT 02: short lists, written out by hand and computed. The trim key is row 1 column 0: 10, and 90 its release.
 --
---    standings, standings-right     what stands at the places of lists
---    refusals, refusals-right       each refusal, and which comes first
---    walks-right                    all groups handed out, into buffers that are too short, long enough and longer
+--    standings, standings_right     what stands at the places of lists
+--    refusals, refusals_right       each refusal, and which comes first
+--    walks_right                    all groups handed out, into buffers that are too short, long enough and longer
 -- Assumes nothing.
 use Prim.Native.Nat.{ℕ}
 use mathlib.Core.Path.{◌≡◌, refl}

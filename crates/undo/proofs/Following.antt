@@ -1,17 +1,17 @@
 -- Laws that the code's walks need: what stands at a place where something begins, the marks and the ends from there on.
 --
---    put_from; put-none, put_next, put_all    ends put one by one, from a place on; so they are put over the buffer
+--    put_from; put_none, put_next, put_all    ends put one by one, from a place on; so they are put over the buffer
 --    marks_at, ends_at, tail_at, count_at        the marks, the groups' ends, the tail's first place and how many groups there are, the list being cut from a place on
---    next-none, next-alone                   what stands at the end, and at a code outside
---    open_at; open-begin, open-on             a group that the trim key opens, up to a place; a code further each time
---    open-ends, open-end                     it ends with this code; the list ends before it does
---    Grouped; next-group, next-stops         a group stands at a place; it does if that is what stands there, and else no group follows
---    group-later, group-within               it ends later than it begins, within the list; groups-past: past the list there is none
---    marks-skip, marks-stop                  the marks of a later place, past a group and where none follows
---    marks-here, marks-past, marks-end       the marks of the very place, of an earlier one, of the list's end
+--    next_none, next_alone                   what stands at the end, and at a code outside
+--    open_at; open_begin, open_on             a group that the trim key opens, up to a place; a code further each time
+--    open_ends, open_end                     it ends with this code; the list ends before it does
+--    Grouped; next_group, next_stops         a group stands at a place; it does if that is what stands there, and else no group follows
+--    group_later, group_within               it ends later than it begins, within the list; groups-past: past the list there is none
+--    marks_skip, marks_stop                  the marks of a later place, past a group and where none follows
+--    marks_here, marks_past, marks_end       the marks of the very place, of an earlier one, of the list's end
 --    ends-.., tail-.., count-..              the ends, the tail and the count, past a group and where none follows
---    HandedOut; handed-none, handed-on       so many groups are handed out: none at first, one more past a group
---    handed-all, handed-ends                 where no group follows, all are, with their ends in the buffer
+--    HandedOut; handed_none, handed_on       so many groups are handed out: none at first, one more past a group
+--    handed_all, handed_ends                 where no group follows, all are, with their ends in the buffer
 -- Assumes nothing.
 use Prim.Native.Nat.{ℕ, zero, suc, ◌+◌, ◌-◌, ◌<◌, ◌≤◌, min}
 use native.Mathlib.Omega.{arith}

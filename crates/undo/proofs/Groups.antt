@@ -1,11 +1,11 @@
 -- Laws of the groups, over any rule.
 --
 --    covers                the groups in order, with the open tail, are the whole list
---    a-group, a-tail       what each group is, and what the tail is
---    groups-right          so the groups of a list are a cut of it
---    groups-only           and no other cut of it is there
---    group-some            a group has a code
---    cut-finished          behind a finished group the rest is cut as a list of its own; groups-first: and so behind the first group
+--    a_group, a_tail       what each group is, and what the tail is
+--    groups_right          so the groups of a list are a cut of it
+--    groups_only           and no other cut of it is there
+--    group_some            a group has a code
+--    cut_finished          behind a finished group the rest is cut as a list of its own; groups-first: and so behind the first group
 -- Assumes nothing.
 use Prim.Native.Nat.{ℕ, suc, ◌+◌, ◌<◌, ◌≤◌}
 use native.Mathlib.Decide.{dec_lt}

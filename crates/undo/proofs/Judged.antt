@@ -1,8 +1,8 @@
 -- The number of a list by itself: how far its codes are good, and agree, decides.
 --
---    trim-no               the trim key's code is no press of a key
---    code-no, change-no    some code is no code; some code doesn't agree when its turn comes
---    list-yes              all do
+--    trim_no               the trim key's code is no press of a key
+--    code_no, change_no    some code is no code; some code doesn't agree when its turn comes
+--    list_yes              all do
 -- Assumes nothing.
 use Prim.Native.Nat.{ℕ, ◌<◌, ◌≤◌}
 use mathlib.Core.Path.{◌≡◌, sym, ap, ◌∙◌}

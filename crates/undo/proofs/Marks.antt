@@ -1,11 +1,11 @@
 -- Laws of the marks: what stands at a place, over any rule.
 --
---    right-stands, stands-right    what is right at a place stands there, and what stands there is right
---    stand-begins                  where something begins, what the marks have there stands there
---    begins-stands                 and where something stands, something begins
---    stand-only                    what stands at a place is what the marks have there
---    marks-later, marks-within     no mark is at an earlier place than the first, or beyond the list
---    end-stands                    nothing more stands at the list's length
+--    right_stands, stands_right    what is right at a place stands there, and what stands there is right
+--    stand_begins                  where something begins, what the marks have there stands there
+--    begins_stands                 and where something stands, something begins
+--    stand_only                    what stands at a place is what the marks have there
+--    marks_later, marks_within     no mark is at an earlier place than the first, or beyond the list
+--    end_stands                    nothing more stands at the list's length
 -- Assumes nothing.
 use Prim.Native.Nat.{ℕ, ◌+◌, ◌<◌, ◌≤◌}
 use native.Mathlib.Omega.{arith}

@@ -1,9 +1,9 @@
 -- THE SOURCE: what the toolchain makes of the contracts in src/lib.rt is these definitions; each allows one outcome and asks nothing.
 --
---    stands-source, stretch-source, walk_source
---    stands-determined, stretch-determined, walk-determined
---    stands-total, stretch-total, walk-total
---    stretch-is-that-part      a stretch lies within the list, and is that part of it, by codes and by address
+--    stands_source, stretch_source, walk_source
+--    stands_determined, stretch_determined, walk_determined
+--    stands_total, stretch_total, walk_total
+--    stretch_is_that_part      a stretch lies within the list, and is that part of it, by codes and by address
 -- Assumes nothing.
 use Prim.Native.Nat.{ℕ, ◌-◌, ◌≤◌}
 use native.Mathlib.Omega.{arith}

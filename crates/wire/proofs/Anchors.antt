@@ -1,6 +1,6 @@
 -- THE LONGEST READ FROM EACH ADDRESS, as a literal table: what docs/HOST.md's registers allow, run by run.
 --
---    longest-right    for each of 256 addresses, ALL COMPUTED
+--    longest_right    for each of 256 addresses, ALL COMPUTED
 -- Assumes nothing.
 use Prim.Native.Nat.{ℕ}
 use mathlib.Core.Path.{◌≡◌, refl}

@@ -1,32 +1,32 @@
 -- Laws of transfers.
 --
---    longest_run, run-longest         the longest run can be read, and no longer one of 32 bytes at most can
---    longest-most, run-within         it has 32 bytes at most, and a shorter one can be read too; run-fewer: so it is of any run
---    longest-none, none-longest       it has no byte exactly if the first can't be read
---    longest-begin, readable-some, readable-none, readable-end    its walk: the beginning, an address that can be read, one that can't, and the end
---    least-left, least-right          the smaller of two numbers; least-most: it is no greater than either
---    shared-all, shared-most          a list shares all with itself, and no more than it has
---    shared-take                      what two lists share are the first items of both
---    shared-begin, shared-more, shared-differ, shared-stop    the walk of two lists: the beginning, an item that they share, one that differs, and the end
---    reads-unsound, reads-asleep, reads_none, reads-done    the number of a read
---    reads-one                        that of a read of one byte, in each case; one_none, one-done: by the longest run
---    read-facts                       what holds of a read that is done
---    bytes-length, first-bytes        a read gives as many bytes as it asks for; one of fewer bytes gives the first of them
---    read-leaves                      the module after a done read
---    read-prefix                      READ-PREFIX: where a read is done, one of fewer bytes is done too, gives the first of its bytes, and takes no more
---    agreed-most, agreed-first        of the bytes that a read still gives there are no more than were sent, and they are the first of those
---    agreed-all                       all are given if nothing came between
+--    longest_run, run_longest         the longest run can be read, and no longer one of 32 bytes at most can
+--    longest_most, run_within         it has 32 bytes at most, and a shorter one can be read too; run-fewer: so it is of any run
+--    longest_none, none_longest       it has no byte exactly if the first can't be read
+--    longest_begin, readable_some, readable_none, readable_end    its walk: the beginning, an address that can be read, one that can't, and the end
+--    least_left, least_right          the smaller of two numbers; least-most: it is no greater than either
+--    shared_all, shared_most          a list shares all with itself, and no more than it has
+--    shared_take                      what two lists share are the first items of both
+--    shared_begin, shared_more, shared_differ, shared_stop    the walk of two lists: the beginning, an item that they share, one that differs, and the end
+--    reads_unsound, reads_asleep, reads_none, reads_done    the number of a read
+--    reads_one                        that of a read of one byte, in each case; one_none, one-done: by the longest run
+--    read_facts                       what holds of a read that is done
+--    bytes_length, first_bytes        a read gives as many bytes as it asks for; one of fewer bytes gives the first of them
+--    read_leaves                      the module after a done read
+--    read_prefix                      READ-PREFIX: where a read is done, one of fewer bytes is done too, gives the first of its bytes, and takes no more
+--    agreed_most, agreed_first        of the bytes that a read still gives there are no more than were sent, and they are the first of those
+--    agreed_all                       all are given if nothing came between
 --    blank                            the room for a transfer's bytes, with none in it
---    filled-length, filled-take, filled_at    the room with bytes at its front: its length, its front, and a byte of that
---    put-filled, put-fits             the bytes of a read, put into the room
---    run-blank, run-all, run-part, part-fits    the reads that are asked for, and that what was sent lies in the room
---    agreed-is                        the bytes are compared with those of a read of as many
---    read-declined, read-begun        a read that begins: declined, and with all made ahead
---    write-declined, write-begun      a write that begins: declined, and with the address to come; reaches: when it is not declined
---    byte-names, byte-refused, byte-nowhere, byte-over, byte-kept    a byte that comes: the address, that of a declined write, one that nothing waits for, one too many, and one to be written
---    silent-else, silent-past, silent-full, byte-given    a byte that is asked for: in no read, past the last, past the room, and one that is there
---    write-ended, none-ended, read-ended    a transfer that stops: a write, none, and a read
---    open-dropped                     one that is dropped
+--    filled_length, filled_take, filled_at    the room with bytes at its front: its length, its front, and a byte of that
+--    put_filled, put_fits             the bytes of a read, put into the room
+--    run_blank, run_all, run_part, part_fits    the reads that are asked for, and that what was sent lies in the room
+--    agreed_is                        the bytes are compared with those of a read of as many
+--    read_declined, read_begun        a read that begins: declined, and with all made ahead
+--    write_declined, write_begun      a write that begins: declined, and with the address to come; reaches: when it is not declined
+--    byte_names, byte_refused, byte_nowhere, byte_over, byte_kept    a byte that comes: the address, that of a declined write, one that nothing waits for, one too many, and one to be written
+--    silent_else, silent_past, silent_full, byte_given    a byte that is asked for: in no read, past the last, past the room, and one that is there
+--    write_ended, none_ended, read_ended    a transfer that stops: a write, none, and a read
+--    open_dropped                     one that is dropped
 -- Assumes nothing.
 use Prim.Native.Nat.{ℕ, zero, suc, ◌+◌, ◌-◌, ◌≤◌, ◌<◌}
 use native.Mathlib.Omega.{arith}

@@ -2,18 +2,18 @@
 --
 --    asked n w          the wire w, once the bus has asked for n bytes
 --    giving w l n       the wire w, reading, with the bytes l made ahead and n of them given
---    next-ahead, next_past    the bus asks for a byte: one is ahead; all were given
---    begun-giving       a read that is begun gives what is ahead, from the first on
---    asked-giving       and so it does byte after byte, up to the last
---    gives-ahead        byte number n, from 0, is that of those ahead, and FF past them
---    ahead-done, ahead_none, ahead-most    what is ahead: all that can be read, or nothing
---    sent-ahead         the bytes that were sent are the first of those ahead
---    ends-given         how many of them count, whatever the module is at the stop; ends-most, ends-first: they are the first of those sent, and a read now gives them
---    ends-done          the read of as many bytes as count is declined by 8 and 27 alone
---    one-access         a read with nothing between: all count, and the bus was handed what the one read of them gives
+--    next_ahead, next_past    the bus asks for a byte: one is ahead; all were given
+--    begun_giving       a read that is begun gives what is ahead, from the first on
+--    asked_giving       and so it does byte after byte, up to the last
+--    gives_ahead        byte number n, from 0, is that of those ahead, and FF past them
+--    ahead_done, ahead_none, ahead_most    what is ahead: all that can be read, or nothing
+--    sent_ahead         the bytes that were sent are the first of those ahead
+--    ends_given         how many of them count, whatever the module is at the stop; ends-most, ends-first: they are the first of those sent, and a read now gives them
+--    ends_done          the read of as many bytes as count is declined by 8 and 27 alone
+--    one_access         a read with nothing between: all count, and the bus was handed what the one read of them gives
 --    took w bs          the wire w, once the bytes bs came
 --    collecting a l     a wire that has collected the bytes l for the address a; took-all: and then others
---    one-write          a write: the first byte names the address, and the others, 33 at most, are those of one write
+--    one_write          a write: the first byte names the address, and the others, 33 at most, are those of one write
 -- Assumes nothing.
 use Prim.Native.Nat.{ℕ, zero, suc, ◌+◌, ◌-◌, ◌≤◌, ◌<◌}
 use native.Mathlib.Omega.{arith}

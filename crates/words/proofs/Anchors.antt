@@ -1,7 +1,7 @@
 -- Bits against the weights of binary numbers, written out and computed.
 --
 --    weights       the weight of each bit of a byte
---    bits-right    the weights of a byte's bits that are 1 add up to the byte, of all 256
+--    bits_right    the weights of a byte's bits that are 1 add up to the byte, of all 256
 -- Assumes nothing.
 use Prim.Native.Nat.{ℕ, ◌+◌}
 use mathlib.Core.Path.{◌≡◌, refl}

@@ -1,14 +1,14 @@
 -- Laws of the bits of a number.
 --
---    bit-none                 the number 0 has no bit that is 1
---    bit-first, bit-later     bit 0 of a number, and each bit behind it
---    bit-half                 the same of a number by its half
+--    bit_none                 the number 0 has no bit that is 1
+--    bit_first, bit_later     bit 0 of a number, and each bit behind it
+--    bit_half                 the same of a number by its half
 --    HighBit n x              one of the bits of x from bit n on is 1
---    high_bit, no-high-bit    it is so exactly if x is at least 2 ^ n
---    binary-bit               the bits of `binary l` are those of the list, and 0 from there on
---    binary-below             a number of so many bits is below that power of 2
+--    high_bit, no_high_bit    it is so exactly if x is at least 2 ^ n
+--    binary_bit               the bits of `binary l` are those of the list, and 0 from there on
+--    binary_below             a number of so many bits is below that power of 2
 --    one_shifted              1 shifted by fewer places than there are bits
---    some-flag                one of three flags is set exactly when the byte that they make isn't 0
+--    some_flag                one of three flags is set exactly when the byte that they make isn't 0
 -- Assumes nothing.
 use Prim.Native.Nat.{ℕ, zero, suc, ◌+◌, ◌*◌, ◌/◌, ◌%◌, ◌^◌, ◌≤◌, ◌<◌}
 use native.Mathlib.Nat.{pow-succ', pow-le-pow_right, one-le-pow, mod-eq_of_lt, zero-div, div-eq_of_lt, div-div-eq-div-mul}

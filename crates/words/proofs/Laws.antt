@@ -1,18 +1,18 @@
 -- Laws of the words.
 --
---    true-false                            true is not false
+--    true_false                            true is not false
 --    and_left, and_right, and_both         a conjunction, taken apart and put together
---    every_first, every_rest, every-cons   the same of `every`
---    every-no, every-yes                   the first item decides, or the rest does
---    every-none, every_one, every-later    of no item; of one; and it fails if the rest does
+--    every_first, every_rest, every_cons   the same of `every`
+--    every_no, every_yes                   the first item decides, or the rest does
+--    every_none, every_one, every_later    of no item; of one; and it fails if the rest does
 --    all_first, all_rest, all_cons         the same of `all`
---    all-no, all_yes
---    all-below, below_all                  `all_below` as a statement about every number
+--    all_no, all_yes
+--    all_below_lem, below_all                  `all_below` as a statement about every number
 --    below_next, below_fails               one number more, and a number of which it is false
---    below-fewer, below-still              true below fewer, and false below more
---    below_split, below-same               the numbers below a and those from a on; of functions that are alike below n
---    all_end, all-at-no, all-at-yes        a list walked from the front: its end, an item that decides, one that is passed
---    front-end, front-no, front-yes        the same of the list's first n items
+--    below_fewer, below_still              true below fewer, and false below more
+--    below_split, below_same               the numbers below a and those from a on; of functions that are alike below n
+--    all_end, all_at_no, all_at_yes        a list walked from the front: its end, an item that decides, one that is passed
+--    front_end, front_no, front_yes        the same of the list's first n items
 -- Assumes nothing.
 use Prim.Native.Nat.{ℕ, zero, suc, ◌+◌, ◌<◌, ◌≤◌, min}
 use native.Mathlib.Nat.{not-suc-le-zero}

@@ -1,12 +1,12 @@
 -- Laws of tests and plain lists.
 --
---    by-test                          what holds if a test is true, and if it is false, holds
---    some-append                      a list after another has an item if either has
+--    by_test                          what holds if a test is true, and if it is false, holds
+--    some_append                      a list after another has an item if either has
 --    all_none, all_one                a test of no item, and of one
 --    all_append, all_take, all_drop   a test of a list's parts; all_replicate: of one item many times
---    all-at, all_of                   a test of a list, place by place; all-anywhere: also past its end
---    take-most                        at most n are taken
---    take-room                        the first n of two lists: the one, and as much of the other as there is room for
+--    all_at, all_of                   a test of a list, place by place; all-anywhere: also past its end
+--    take_most                        at most n are taken
+--    take_room                        the first n of two lists: the one, and as much of the other as there is room for
 -- Assumes nothing.
 use Prim.Native.Nat.{ℕ, zero, suc, ◌+◌, ◌-◌, ◌<◌, ◌≤◌}
 use native.Mathlib.Omega.{arith}

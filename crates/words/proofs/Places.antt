@@ -1,8 +1,8 @@
 -- Tests of many places: a test that judges one place and then the rest is a test of every place below the end.
 --
 --    chain         a test that goes on from place to place judges every place below the end
---    all-places    so does a test of a list's items
---    fails-at      a test that fails fails at some place
+--    all_places    so does a test of a list's items
+--    fails_at      a test that fails fails at some place
 -- Assumes nothing.
 use Prim.Native.Nat.{ℕ, zero, suc, ◌≤◌, ◌<◌}
 use native.Mathlib.Omega.{arith}

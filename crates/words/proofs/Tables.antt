@@ -1,13 +1,13 @@
 -- Laws of tables, and of a list that is replaced by a table from the front.
 --
---    table-length, table_at        a table's length and items
+--    table_length, table_at        a table's length and items
 --    table_same                    tables of functions that are alike below n are the same
---    table-front                   a table of one value, from the front
---    by-table                      a list that has a table's items is the table
+--    table_front                   a table of one value, from the front
+--    by_table                      a list that has a table's items is the table
 --    replaced f k l                the list l, its first k items replaced by those of the table of f
---    replaced-none, replaced-all   none replaced, and all
---    replaced-at                   the next item is still the list's own
---    replaced-next                 one item more
+--    replaced_none, replaced_all   none replaced, and all
+--    replaced_at                   the next item is still the list's own
+--    replaced_next                 one item more
 -- Assumes nothing.
 use Prim.Native.Nat.{ℕ, zero, suc, ◌+◌, ◌<◌}
 use native.Mathlib.Decide.{dec_lt}
