@@ -249,29 +249,33 @@ def tokens(lines):
 def changes(old, new):
     """The changed pieces of a text, each in one line: (line, start, end, new text)."""
     lines, found = old.split("\n"), []
+
+    def gap(them, n):
+        """Is there something between this token and the one before it?"""
+        return n <= 0 or n >= len(them) or them[n - 1][1] != them[n][1] or them[n - 1][3] != them[n][2]
+
     for i, j, became in hunks(old, new):
         a, b = tokens(lines[i:j]), tokens(became)
         spans = {}
         for tag, k, l, m, n in difflib.SequenceMatcher(None, [it[0] for it in a], [it[0] for it in b], autojunk=False).get_opcodes():
             if tag == "equal":
                 continue
-            if k == l:
-                if k > 0:
-                    k, m = k - 1, m - 1
-                elif l < len(a):
-                    l, n = l + 1, n + 1
-                else:
-                    raise Unfit("lines were added between others")
-            if a[k][1] != a[l - 1][1]:
+            if k == l and k == len(a) and k == 0:
+                raise Unfit("lines were added between others")
+            at = a[k][1] if k < l or k == 0 else a[k - 1][1]
+            if k < l and a[k][1] != a[l - 1][1]:
                 raise Unfit("the change goes over several lines")
-            now = spans.setdefault(a[k][1], [k, l, m, n])
+            now = spans.setdefault(at, [k, l, m, n])
             now[0], now[1], now[2], now[3] = min(now[0], k), max(now[1], l), min(now[2], m), max(now[3], n)
         for at, (k, l, m, n) in spans.items():
-            words = []
+            while k > 0 and m > 0 and a[k - 1][1] == at and (m == n or k == l or gap(a, k) != gap(b, m)):
+                k, m = k - 1, m - 1
+            while l < len(a) and n < len(b) and a[l][1] == at and (m == n or k == l or gap(a, l) != gap(b, n)):
+                l, n = l + 1, n + 1
+            said = ""
             for p in range(m, n):
-                near = words and b[p][1] == b[p - 1][1]
-                words.append((became[b[p][1]][b[p - 1][3]:b[p][2]] if near else " " if words else "") + b[p][0])
-            found.append((i + at, a[k][2], a[l - 1][3], "".join(words)))
+                said += (" " if p > m and gap(b, p) else "") + b[p][0]
+            found.append((i + at, a[k][2], a[l - 1][3], said))
     return found
 
 
