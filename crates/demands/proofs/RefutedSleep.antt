@@ -3,7 +3,7 @@
 --    vacant, looks n, one, ..     the samples of a look with every contact open, n such looks, a read of one byte of KBDSIZE
 --    napping n                    the module after reset, with a count of n: such are ours after n of those looks, 255 at most (ours-after)
 --    vacant_asleep                the sheet says that the panel sleeps after 255 of them, and not before
---    aside n                      the state after reset of a machine that counts beside the module, with a row of n: such is one that sleeps after k looks, after n of them (sleepsAt-after)
+--    aside n                      the state after reset of a machine that counts beside the module, with a row of n: such is one that sleeps after k looks, after n of them (sleeps_at_after)
 --    elsewhere_refuted            A MACHINE THAT SLEEPS AFTER k QUIET LOOKS MEETS THE DEMAND FOR NO k BUT 255
 --    early_refuted, late_refuted  so neither after 254 nor after 256
 --    LeftWrong, no_left           what a read leaves that was declined with 27; then the machine doesn't meet demand 1

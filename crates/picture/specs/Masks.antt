@@ -1,4 +1,4 @@
--- The held keys' codes, worked out row by row from masks: how the code does it. Who reads the rules can leave this page out: `order-by-masks` says that the codes are those of `held_codes`.
+-- The held keys' codes, worked out row by row from masks: how the code does it. Who reads the rules can leave this page out: `order_by_masks` says that the codes are those of `held_codes`.
 --
 --    mask_at hs row         the mask of a row of a table: bit c is 1 if the key in column c is held
 --    masks hs               the masks of the eight rows of a table

@@ -88,13 +88,13 @@ module _ (z : ℕ) (h : ℕ → Bool) (h_ok : Within z h) where
   unfolding flat
   from_flat k l e = rw (and_left (ltb (col_of k) 12) (h (special k)) (sym (told_hidden h z k l h_ok) ∙ e))
 
-module _ (z : ℕ) (Size-ok : acceptable z ≡ true) (h : ℕ → Bool) (h_ok : Within z h) (w : List ℕ) (n : length w ≡ 15) where
+module _ (z : ℕ) (size_ok : acceptable z ≡ true) (h : ℕ → Bool) (h_ok : Within z h) (w : List ℕ) (n : length w ≡ 15) where
   h₁ : ℕ → Bool
   h₁ = put h 12 (not (h 12))
 
   h₁_ok : Within z h₁
   unfolding h₁
-  h₁_ok = put_within z h 12 (not (h 12)) (first_in_lem z Size-ok) h_ok
+  h₁_ok = put_within z h 12 (not (h 12)) (first_in_lem z size_ok) h_ok
 
   -- only that key differs, and it is never hidden
   there_else : (j : ℕ) → (j ≡ 12 → ⊥) → h₁ j ≡ h j
@@ -177,38 +177,38 @@ module _ (z d : ℕ) (h : ℕ → Bool) (r : ℕ → ℕ) (w : List ℕ) (rs rk 
   mark_if false n low a k = k
 
 -- ---- any flags, no mark
-module _ (z : ℕ) (Size-ok : acceptable z ≡ true) (h : ℕ → Bool) (h_ok : Within z h) (w : List ℕ) (n : length w ≡ 15) where
+module _ (z : ℕ) (size_ok : acceptable z ≡ true) (h : ℕ → Bool) (h_ok : Within z h) (w : List ℕ) (n : length w ≡ 15) where
   pub two_flags : (rs rk : Bool) → Waits z w → Known z 1 h none w rs rk true []
   unfolding all_read among
-  two_flags true true t = all_set z Size-ok h h_ok w n t
-  two_flags false false t = go (all_set z Size-ok h h_ok w n t)
+  two_flags true true t = all_set z size_ok h h_ok w n t
+  two_flags false false t = go (all_set z size_ok h h_ok w n t)
     where
       go : Known z 1 h none w true true true [] → Known z 1 h none w false false true []
-      go (past, k) = (wrote KBDIC 1 ∷ past, clear_01 z Size-ok h h_ok w n h true true true [] past k)
+      go (past, k) = (wrote KBDIC 1 ∷ past, clear_01 z size_ok h h_ok w n h true true true [] past k)
   two_flags false true t =
       mark_last z 1 h none w true true true (2 ∷ 1 ∷ 0 ∷ []) 3 refl refl
       (mark_one z 1 h none w true true true (1 ∷ 0 ∷ []) 2 refl refl
       (mark_one z 1 h none w true true true (0 ∷ []) 1 refl refl
-      (mark_one z 1 h none w true true true [] 0 refl refl (all_set z Size-ok h h_ok w n t))))
-  two_flags true false t = go (all_set z Size-ok h h_ok w n t)
+      (mark_one z 1 h none w true true true [] 0 refl refl (all_set z size_ok h h_ok w n t))))
+  two_flags true false t = go (all_set z size_ok h h_ok w n t)
     where
       g : ℕ → Bool
-      g = h₁ z Size-ok h h_ok w n
+      g = h₁ z size_ok h h_ok w n
 
       go : Known z 1 h none w true true true [] → Known z 1 h none w true false true []
       go (past, (t, f)) =
-          let b = there z Size-ok h h_ok w n past t true (rw f.its_rklint refl) in
+          let b = there z size_ok h h_ok w n past t true (rw f.its_rklint refl) in
           let past₁ : Past = looked (samples_of g) ∷ past in
-          let c = clear_01 z Size-ok h h_ok w n g true true true [] past₁ b in
+          let c = clear_01 z size_ok h h_ok w n g true true true [] past₁ b in
           let past₂ : Past = wrote KBDIC 1 ∷ past₁ in
-          (looked (samples_of h) ∷ past₂, home z Size-ok h h_ok w n past₂ c.0 false (rw (c.1.its_rklint, c.1.its_rsint) refl))
+          (looked (samples_of h) ∷ past₂, home z size_ok h h_ok w n past₂ c.0 false (rw (c.1.its_rklint, c.1.its_rsint) refl))
 
   pub any_flags : (rs rk re : Bool) → Waits z w → Known z 1 h none w rs rk re []
   any_flags rs rk true t = two_flags rs rk t
   any_flags rs rk false t = go (two_flags rs rk t)
     where
       go : Known z 1 h none w rs rk true [] → Known z 1 h none w rs rk false []
-      go (past, k) = (wrote KBDIC 2 ∷ past, clear_2 z Size-ok h h_ok w n h rs rk true [] past k)
+      go (past, k) = (wrote KBDIC 2 ∷ past, clear_2 z size_ok h h_ok w n h rs rk true [] past k)
 
 -- ---- the codes before those wanted are fetched
 module _ (z d : ℕ) (h : ℕ → Bool) (r : ℕ → ℕ) (rs rk re : Bool) where

@@ -1,7 +1,7 @@
 -- "A state is sound when:"
 --
 --    contact_sound within held run    what is asked of a contact, within the size or not
---    key_sound size k held run        what is asked of key k; placeSound: of the key in a row and column; keysSound: of all keys
+--    key_sound size k held run        what is asked of key k; place_sound: of the key in a row and column; keys_sound: of all keys
 --    codes_sound size q               what is asked of the codes that wait
 --    rest_unused q                    what is asked of the places after them
 --    sound m                          the state is sound, computed

@@ -1,4 +1,4 @@
--- `picture::masks` meets its contract: a mask for each row, and `order-by-masks`.
+-- `picture::masks` meets its contract: a mask for each row, and `order_by_masks`.
 use mathlib.Core.Path.{◌≡◌, sym, ap, ◌∙◌}
 use mathlib.Core.List.{[], ◌∷◌}
 use borrow.Author.Rules.{rules}
