@@ -29,6 +29,16 @@ void begin(long *stack)
         system_call(SYSTEM_EXIT_GROUP, status, 0, 0, 0);
 }
 
+/* What is done at a signal from now on, which is 1 where it is to be ignored, as a program asks of the signal of a broken pipe. What was done before; -1 if it can't be. */
+size_t __sysv_signal(int signal, size_t handler)
+{
+    struct {
+        size_t handler, flags, restorer, mask;
+    } now = {handler, 0, 0, 0}, before;
+
+    return system_call(SYSTEM_SIGACTION, signal, (long)&now, (long)&before, sizeof now.mask) < 0 ? (size_t)-1 : before.handler;
+}
+
 size_t rattle_arg_count(void) { return (size_t)count; }
 
 /* Word i goes to the start of the buffer, without the 0 that ends it. Its length; -1 if there is no such word; -2 if it is too long, and then the buffer is full. */

@@ -10,6 +10,7 @@ typedef __PTRDIFF_TYPE__ ssize_t;
 #define SYSTEM_READ 63
 #define SYSTEM_WRITE 64
 #define SYSTEM_EXIT_GROUP 94
+#define SYSTEM_SIGACTION 134
 
 /* One system call: the kernel's own answer, an error's number negated if it failed. */
 static inline long system_call(long number, long a, long b, long c, long d)
@@ -27,9 +28,10 @@ static inline long system_call(long number, long a, long b, long c, long d)
 ssize_t read(int from, void *bytes, size_t count);
 ssize_t write(int to, const void *bytes, size_t count);
 int close(int file);
-int rattle_open_to_read(const char *path);
-int rattle_open_to_overwrite(const char *path, unsigned mode);
-void rattle_set_errno(int error);
+int open(const char *path, int how, ...);
+int rattle_errno(void);
+void rattle_set_errno(int number);
+size_t __sysv_signal(int signal, size_t handler);
 size_t rattle_arg_count(void);
 ssize_t rattle_arg(size_t i, unsigned char *buffer, size_t room);
 

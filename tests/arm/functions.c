@@ -4,6 +4,16 @@
 #define ROOM 96
 #define MODE 0600
 
+/* How a file is opened: to read; to write, where it is made if it isn't there, and emptied. O_NOCTTY and O_CLOEXEC go with both, as the library os has them. */
+#define TO_READ 02000400
+#define TO_OVERWRITE 02001501
+
+/* Errors' numbers, and a signal's. */
+#define NO_FILE 2
+#define BAD_FILE 9
+#define IS_FOLDER 21
+#define BROKEN_PIPE 13
+
 static int made, failed;
 
 /* check TRUTH, WORDS: one thing that must be so; what isn't is told. */
@@ -127,12 +137,12 @@ static void see_words(void)
 static void see_files(const char *path)
 {
     unsigned char bytes[9] = "........";
-    int file = rattle_open_to_overwrite(path, MODE), other;
+    int file = open(path, TO_OVERWRITE, MODE), other;
 
     check(file > 2, "a file is made");
     check(write(file, "abcdef", 6) == 6 && write(file, "", 0) == 0, "bytes are written");
     check(read(file, bytes, 8) == -1, "a file that is open for writing isn't read");
-    other = rattle_open_to_read(path);
+    other = open(path, TO_READ);
     check(other > file, "a file is opened for reading");
     check(write(other, "x", 1) == -1, "a file that is open for reading isn't written");
     check(read(other, bytes, 4) == 4 && read(other, bytes + 4, 4) == 2 && memcmp(bytes, "abcdef..", 8) == 0, "the bytes are read");
@@ -140,23 +150,35 @@ static void see_files(const char *path)
     check(close(file) == 0 && close(file) == -1, "a file is closed once");
     check(write(file, "x", 1) == -1 && read(file, bytes, 8) == -1, "a file that is closed");
     check(close(other) == 0, "the other is closed");
-    file = rattle_open_to_overwrite(path, MODE);
+    file = open(path, TO_OVERWRITE, MODE);
     check(write(file, "xy", 2) == 2 && close(file) == 0, "a file is written anew");
-    file = rattle_open_to_read(path);
+    file = open(path, TO_READ);
     check(read(file, bytes, 8) == 2 && memcmp(bytes, "xycdef..", 8) == 0 && close(file) == 0, "and what it had is gone");
 }
 
-/* Calls that fail answer -1, whatever the error's number. */
+/* Calls that fail answer -1, and the error's number is kept until another fails or it is set. */
 static void see_failures(const char *nowhere)
 {
     unsigned char byte;
-    int folder = rattle_open_to_read(".");
+    int folder = open(".", TO_READ);
 
-    check(rattle_open_to_read(nowhere) == -1 && rattle_open_to_overwrite(nowhere, MODE) == -1, "a file in no folder");
-    check(rattle_open_to_overwrite(".", MODE) == -1, "a folder isn't written");
+    check(open(nowhere, TO_READ) == -1 && open(nowhere, TO_OVERWRITE, MODE) == -1, "a file in no folder");
+    check(rattle_errno() == NO_FILE, "the error of a file in no folder");
+    check(open(".", TO_OVERWRITE, MODE) == -1, "a folder isn't written");
+    check(rattle_errno() == IS_FOLDER, "the error of a folder that is written");
     check(folder > 2 && read(folder, &byte, 1) == -1 && close(folder) == 0, "a folder isn't read");
     check(read(-1, &byte, 1) == -1 && write(-1, &byte, 1) == -1 && close(-1) == -1, "no file");
+    check(rattle_errno() == BAD_FILE, "the error of no file");
     rattle_set_errno(22);
+    check(rattle_errno() == 22, "an error that is set");
+}
+
+/* A signal that is ignored, which what was done at first tells. */
+static void see_signals(void)
+{
+    check(__sysv_signal(BROKEN_PIPE, 1) == 0, "a signal that nothing was said of");
+    check(__sysv_signal(BROKEN_PIPE, 1) == 1, "a signal that is ignored");
+    check(__sysv_signal(0, 1) == (size_t)-1, "no signal");
 }
 
 /* main's three words are those that a C library would give it. Its number must be the exit status: 40 more than the failures. */
@@ -169,6 +191,7 @@ int main(int count, char **words, char **environment)
     see_words();
     see_files(words[3]);
     see_failures(words[4]);
+    see_signals();
     check(made > 200, "all checks are made");
     return 40 + failed;
 }
