@@ -3,7 +3,10 @@
 
 real=$(readlink -f "$(command -v rt)") || failed "no rt"
 home=${RATTLE_HOME:-${real%/*/*}}
-mkdir "$work/bin" && cp tests/launcher/rt crates/console/out/console "$work/bin/" || failed "no copy of the toolchain that records"
+links_to "$work/home" "$home" bin
+links_to "$work/home/bin" "$home/bin" rattle
+mkdir "$work/bin" && cp tests/launcher/rt crates/console/out/console "$work/bin/" && cp tests/launcher/rattle "$work/home/bin/" || failed "no copy of the toolchain that records"
+home=$work/home
 
 # The console for Arm is made once by all that is real; a clone links its own from that one's object.
 firmware/native >"$work/out" 2>"$work/err" || failed "the console can't be compiled for Arm"
