@@ -55,7 +55,7 @@ find_emulators() {
 # The C functions that a crate's module may declare, beside memcpy and the like.
 foreign_to() {
     case $1 in
-    console) echo "read write close rattle_open_to_read rattle_open_to_overwrite rattle_set_errno rattle_arg_count rattle_arg" ;;
+    console) echo "read write close open rattle_errno rattle_set_errno rattle_arg __sysv_signal __write __x86_get_cpuid_feature_leaf" ;;
     esac
 }
 
