@@ -20,7 +20,7 @@ shut() {
     esac
 }
 
-no_disk() { failed "the disk is full: proving and building the console takes 2 GB in $root/crates/*/out and 1 MB in ${TMPDIR:-/tmp}"; }
+no_disk() { failed "the disk is full: proving and building the console takes 1,200 MB in $root/crates/*/out and 1 MB in ${TMPDIR:-/tmp}"; }
 no_out() { failed "$root/crates/*/out can't be written to, and the console is proved and built there: clone to a place that can be"; }
 no_temporary() { failed "no temporary folder can be made in ${TMPDIR:-/tmp}: set TMPDIR to a folder that can be written to"; }
 
