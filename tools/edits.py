@@ -350,8 +350,8 @@ def patch(it, files, crate):
             for side, one in (("a", old), ("b", new)):
                 if one is not None:
                     write(os.path.join(room, side, path), one)
-            ran = run("git", "diff", "--no-index", "--no-color", "-U1", *(["a/" + path] if old is not None else ["/dev/null"]), "b/" + path, where=room)
-            out += re.sub(r"(?m)^index .*\n", "", ran.stdout).replace("a/a/", "a/").replace("b/b/", "b/")
+            ran = run("git", "diff", "--no-index", "--no-color", "-U1", "a/" + path if old is not None else "/dev/null", "b/" + path, where=room)
+            out += re.sub(r"\b[ab]/([ab])/", r"\1/", re.sub(r"(?m)^index .*\n", "", ran.stdout)).replace(f"diff --git b/{path}", f"diff --git a/{path}")
     return out
 
 
