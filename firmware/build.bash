@@ -84,7 +84,8 @@ find_module() {
         must_write "$made/$1.sum" sha256sum "$(built_of "$1")"
         had="taken from a build that is, byte for byte, what rt proved and built"
     fi
-    must_write "$made/$1.ll" sed -f firmware/retarget.sed "$made/$1.x86.ll"
+    must_write "$made/$1.padded.ll" sed -f firmware/padding.sed "$made/$1.x86.ll"
+    must_write "$made/$1.ll" sed -f firmware/retarget.sed "$made/$1.padded.ll"
 }
 
 # refusals CRATE FILE: what of a module can't be carried to another target, to $made/refused.

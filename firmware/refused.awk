@@ -19,6 +19,8 @@ line ~ /(^|[^a-z0-9_.])inttoptr([^a-z0-9_.]|$)/ { says("a number made a pointer"
 line ~ /(^|[^a-z0-9_.])asm([^a-z0-9_.]|$)/ { says("assembly") }
 line ~ /(^|[^a-z0-9_.])addrspacecast([^a-z0-9_.]|$)/ { says("another address space") }
 line ~ /(^|[^a-z0-9_.])getelementptr / && line !~ /getelementptr (inbounds |nuw |nusw )*\(?i8, / { says("a place not told in bytes") }
+# a small number beside a pointer lies elsewhere where pointers are shorter
+!told && line ~ /\{ i(1|8|16|32), ptr/ { says("padding that isn't written out"); told = 1 }
 # bytes that nothing alters are the same everywhere
 line ~ /^@/ && line !~ /^@static\.[0-9]+ = private unnamed_addr constant \[[0-9]+ x i8\] (c""|zeroinitializer), align 1$/ { says("a variable, or another name") }
 line ~ /^define / && line !~ /^define internal / && line ~ /^define ([a-z_]+ )*i(1|8|16) @/ && line !~ /^define [^@]*(zeroext|signext) / { says("a small number returned, and not extended") }

@@ -1,4 +1,3 @@
 pub mod Bytes
 pub mod Accesses
-pub mod Lent
 pub mod Pins

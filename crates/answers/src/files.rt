@@ -1,49 +1,39 @@
 // What is wrong with the files of a session, the one to play and the one to record to.
-ghost use Rattle.std.specs.Prelude.{◌≤◌};
+ghost use Rattle.std.specs.Prelude.{◌≡◌};
 
-use crate::out;
 use crate::out::Output;
 
 // The file to play can't be read.
-pub fn unreadable(p: Output) -> Output
-    ensures { result.page.at ≤ 256 }
+pub fn unreadable(out: &mut Output)
+    ensures { out.new.to ≡ out.old.to }
 {
-    out::text(p, b"? the file to play can't be read\n")
+    out.text(b"? the file to play can't be read\n");
 }
 
 // The file to play is too long.
-pub fn too_long(p: Output) -> Output
-    ensures { result.page.at ≤ 256 }
+pub fn too_long(out: &mut Output)
+    ensures { out.new.to ≡ out.old.to }
 {
-    out::text(
-        p,
-        b"? the file to play is too long (1048576 bytes at most)\n",
-    )
+    out.text(b"? the file to play is too long (1048576 bytes at most)\n");
 }
 
 // The file to play is no packed list.
-pub fn no_list(p: Output) -> Output
-    ensures { result.page.at ≤ 256 }
+pub fn no_list(out: &mut Output)
+    ensures { out.new.to ≡ out.old.to }
 {
-    out::text(
-        p,
-        b"? 20 the file to play is no packed list: cut short or padded wrongly\n",
-    )
+    out.text(b"? 20 the file to play is no packed list: cut short or padded wrongly\n");
 }
 
 // The file to record to can't be written.
-pub fn unwritable(p: Output) -> Output
-    ensures { result.page.at ≤ 256 }
+pub fn unwritable(out: &mut Output)
+    ensures { out.new.to ≡ out.old.to }
 {
-    out::text(p, b"? the file to record to can't be written\n")
+    out.text(b"? the file to record to can't be written\n");
 }
 
 // The program's words name no files.
-pub fn unknown(p: Output) -> Output
-    ensures { result.page.at ≤ 256 }
+pub fn unknown(out: &mut Output)
+    ensures { out.new.to ≡ out.old.to }
 {
-    out::text(
-        p,
-        b"? unknown words behind the program's name (record FILE, play FILE, or both)\n",
-    )
+    out.text(b"? unknown words behind the program's name (record FILE, play FILE, or both)\n");
 }

@@ -1,233 +1,262 @@
 // Undo groups: what stands at a place, all groups of a list of codes, and the list drawn for a person.
-ghost use Rattle.std.specs.Prelude.{◌≤◌};
+ghost use Rattle.std.specs.Prelude.{◌≡◌};
 
-use crate::out;
 use crate::out::Output;
 use keys::SPECIAL;
-use numbers::DONE;
-use text::page::least;
+use numbers::Refusal;
 use undo::Stand;
 
+// How many groups are told of at most.
+// kept: no heap: the ends stand in a fixed list, and the walk says how many there are.
+const MOST: usize = 8192;
+
 // A name, and a place or how many there are.
-fn count(p: Output, name: &[u8], number: usize) -> Output
-    ensures { result.page.at ≤ 256 }
+fn count(out: &mut Output, name: &[u8], number: usize)
+    ensures { out.new.to ≡ out.old.to }
 {
-    out::decimal(out::text(p, name), least(number, 999999) as u32)
+    out.text(name);
+    out.decimal(number.min(999999) as u32);
 }
 
-// A number alone.
-fn number(p: Output, number: u8) -> Output
-    ensures { result.page.at ≤ 256 }
+// The number of a refusal alone.
+fn refused(out: &mut Output, refusal: Refusal)
+    ensures { out.new.to ≡ out.old.to }
 {
-    out::end(out::decimal(p, number as u32))
+    out.decimal(u32::from(refusal.number()));
+    out.end();
 }
 
 // A group by its places.
-fn group(p: Output, first: usize, end: usize) -> Output
-    ensures { result.page.at ≤ 256 }
+fn group(out: &mut Output, first: usize, end: usize)
+    ensures { out.new.to ≡ out.old.to }
 {
-    count(count(p, b" group ", first), b" ", end)
+    count(out, b" group ", first);
+    count(out, b" ", end);
 }
 
 // What stands at a place of a list.
-pub fn stand(p: Output, trim: u8, codes: &[u8], place: usize) -> Output
-    ensures { result.page.at ≤ 256 }
+pub fn stand(out: &mut Output, trim: u8, codes: &[u8], place: usize)
+    ensures { out.new.to ≡ out.old.to }
 {
-    let stand = undo::stands(trim, codes, place);
-    match stand {
-        Stand::Group(first, end) => out::end(group(out::put(p, b'0'), first, end)),
-        Stand::Open(place) => out::end(count(p, b"0 open ", place)),
-        Stand::Nothing => out::text(p, b"0 end\n"),
-        Stand::Declined(why) => number(p, why),
+    match undo::stands(trim, codes, place) {
+        Ok(Stand::Group(first, end)) => {
+            out.put(b'0');
+            group(out, first, end);
+            out.end();
+        }
+        Ok(Stand::Open(place)) => {
+            count(out, b"0 open ", place);
+            out.end();
+        }
+        Ok(Stand::Nothing) => out.text(b"0 end\n"),
+        Err(refusal) => refused(out, refusal),
     }
 }
 
 // The codes of the group that begins at a place of a list.
-pub fn stretch(p: Output, trim: u8, codes: &[u8], place: usize) -> Output
-    ensures { result.page.at ≤ 256 }
+pub fn stretch(out: &mut Output, trim: u8, codes: &[u8], place: usize)
+    ensures { out.new.to ≡ out.old.to }
 {
-    let stand = undo::stands(trim, codes, place);
-    match stand {
-        Stand::Declined(why) => number(p, why),
-        _ => {
-            let part = undo::stretch(trim, codes, place);
-            out::end(out::listed(out::put(p, b'0'), part))
+    match undo::stands(trim, codes, place) {
+        Ok(_) => {
+            out.put(b'0');
+            out.listed(undo::stretch(trim, codes, place));
+            out.end();
         }
+        Err(refusal) => refused(out, refusal),
     }
 }
 
 // The groups that end at these places, by their places.
-fn groups(p: Output, ends: &[usize]) -> Output {
-    let mut next = p;
-    let mut first: usize = 0;
-    let mut i: usize = 0;
-    while i < ends.len() {
-        let end = ends[i];
-        next = group(next, first, end);
-        first = end;
-        i = i + 1;
+fn groups(out: &mut Output, ends: &[usize])
+    ensures { out.new.to ≡ out.old.to }
+{
+    let mut first = 0;
+    for end in ends {
+        group(out, first, *end);
+        first = *end;
     }
-    next
 }
 
 // All groups of a list, by their places.
-pub fn all(p: Output, trim: u8, codes: &[u8]) -> Output
-    ensures { result.page.at ≤ 256 }
+pub fn all(out: &mut Output, trim: u8, codes: &[u8])
+    ensures { out.new.to ≡ out.old.to }
 {
-    let mut ends = [0usize; 8192];
-    let walked = undo::walk(trim, codes, &mut ends);
-    if walked.number != DONE {
-        return number(p, walked.number);
+    // kept: no heap
+    let mut ends = [0; MOST];
+    match undo::walk(trim, codes, &mut ends) {
+        Ok(walked) => {
+            out.put(b'0');
+            groups(out, &ends[..walked.groups.min(MOST)]);
+            if walked.tail < codes.len() {
+                count(out, b" open ", walked.tail);
+                out.end();
+            } else {
+                out.text(b" end\n");
+            }
+        }
+        Err(refusal) => refused(out, refusal),
     }
-    let n = least(walked.groups, 8192);
-    let page = groups(out::put(p, b'0'), &ends[0..n]);
-    if walked.tail < codes.len() {
-        return out::end(count(page, b" open ", walked.tail));
-    }
-    out::text(page, b" end\n")
 }
 
 // The key of a code: row and column.
-fn key(p: Output, code: u8) -> Output
-    ensures { result.page.at ≤ 256 }
+fn key(out: &mut Output, code: u8)
+    ensures { out.new.to ≡ out.old.to }
 {
     let col = code % 16;
-    let row = out::put(out::decimal(p, (code % 128 / 16) as u32), b'.');
+    out.decimal(u32::from(code % 128 / 16));
+    out.put(b'.');
     if col == SPECIAL {
-        return out::text(row, b"SF");
+        out.text(b"SF");
+    } else {
+        out.decimal(u32::from(col));
     }
-    out::decimal(row, col as u32)
 }
 
 // A code behind a blank: a press or a release, and its key.
-fn change(p: Output, code: u8) -> Output
-    ensures { result.page.at ≤ 256 }
+fn change(out: &mut Output, code: u8)
+    ensures { out.new.to ≡ out.old.to }
 {
-    if code < 128 {
-        return key(out::text(p, b" +"), code);
-    }
-    key(out::text(p, b" -"), code)
-}
-
-// Codes, each behind a blank.
-fn changes(p: Output, codes: &[u8]) -> Output {
-    let mut next = p;
-    let mut i: usize = 0;
-    while i < codes.len() {
-        next = change(next, codes[i]);
-        i = i + 1;
-    }
-    next
+    out.text(if code < 128 { b" +" } else { b" -" });
+    key(out, code);
 }
 
 // A place, right-aligned in four columns.
-fn aligned(p: Output, place: usize) -> Output {
-    if place < 10 {
-        return count(p, b"   ", place);
-    }
-    if place < 100 {
-        return count(p, b"  ", place);
-    }
-    if place < 1000 {
-        return count(p, b" ", place);
-    }
-    count(p, b"", place)
+fn aligned(out: &mut Output, place: usize)
+    ensures { out.new.to ≡ out.old.to }
+{
+    let blanks: &[u8] = match place {
+        0..=9 => b"   ",
+        10..=99 => b"  ",
+        100..=999 => b" ",
+        _ => b"",
+    };
+    count(out, blanks, place);
 }
 
 // The line of a group.
-fn line(p: Output, first: usize, name: &[u8], codes: &[u8]) -> Output
-    ensures { result.page.at ≤ 256 }
+fn line(out: &mut Output, first: usize, name: &[u8], codes: &[u8])
+    ensures { out.new.to ≡ out.old.to }
 {
-    out::end(changes(out::text(aligned(p, first), name), codes))
+    aligned(out, first);
+    out.text(name);
+    for code in codes {
+        change(out, *code);
+    }
+    out.end();
 }
 
 // The line of a finished group, from its first place to the place behind its last.
-fn finished(p: Output, trim: u8, codes: &[u8], first: usize, end: usize) -> Output {
-    let to = least(end, codes.len());
-    if to <= first {
-        return p;
+fn finished(out: &mut Output, trim: u8, codes: &[u8], first: usize, end: usize)
+    ensures { out.new.to ≡ out.old.to }
+{
+    let to = end.min(codes.len());
+    if first < to {
+        let name = if codes[first] == trim {
+            b"  group "
+        } else {
+            b"  alone "
+        };
+        line(out, first, name, &codes[first..to]);
     }
-    if codes[first] == trim {
-        return line(p, first, b"  group ", &codes[first..to]);
-    }
-    line(p, first, b"  alone ", &codes[first..to])
 }
 
 // The lines of the groups that end at these places.
-fn lines(p: Output, trim: u8, codes: &[u8], ends: &[usize]) -> Output {
-    let mut next = p;
-    let mut first: usize = 0;
-    let mut i: usize = 0;
-    while i < ends.len() {
-        let end = ends[i];
-        next = finished(next, trim, codes, first, end);
-        first = end;
-        i = i + 1;
+fn lines(out: &mut Output, trim: u8, codes: &[u8], ends: &[usize])
+    ensures { out.new.to ≡ out.old.to }
+{
+    let mut first = 0;
+    for end in ends {
+        finished(out, trim, codes, first, *end);
+        first = *end;
     }
-    next
 }
 
 // The line of the group that is open at the end, if there is one.
-fn tail(p: Output, codes: &[u8], first: usize) -> Output {
-    let n = codes.len();
-    if n <= first {
-        return p;
+fn tail(out: &mut Output, codes: &[u8], first: usize)
+    ensures { out.new.to ≡ out.old.to }
+{
+    if first < codes.len() {
+        line(out, first, b"  open  ", &codes[first..]);
     }
-    line(p, first, b"  open  ", &codes[first..n])
 }
 
 // The first code that doesn't agree with those before it.
-fn disagreement(p: Output, place: usize, code: u8) -> Output {
-    let page = count(p, b"24 place ", place);
-    if code < 128 {
-        return out::end(change(out::text(page, b" presses a key that is down:"), code));
+fn disagreement(out: &mut Output, place: usize, code: u8)
+    ensures { out.new.to ≡ out.old.to }
+{
+    let told: &[u8] = if code < 128 {
+        b" presses a key that is down:"
+    } else {
+        b" lets go a key that is up:"
+    };
+    count(out, b"24 place ", place);
+    out.text(told);
+    change(out, code);
+    out.end();
+}
+
+// The first code that is no press or release of a key, or else the first that doesn't agree with those before it, if there is one.
+fn wrong_code(out: &mut Output, codes: &[u8])
+    ensures { out.new.to ≡ out.old.to }
+{
+    let bad = codes::good(codes);
+    if bad < codes.len() {
+        count(out, b"23 place ", bad);
+        out.hex(b" is no press or release of a key: ", codes[bad]);
+        out.end();
+    } else {
+        let wrong = codes::agreeing(codes);
+        if wrong < codes.len() {
+            disagreement(out, wrong, codes[wrong]);
+        }
     }
-    out::end(change(out::text(page, b" lets go a key that is up:"), code))
 }
 
 // Why a list is declined.
-fn declined(p: Output, trim: u8, codes: &[u8]) -> Output {
-    if (127 < trim) | !keys::is_code(trim) {
-        return out::end(out::hex(p, b"23 the trim key's code is no press of a key: ", trim));
+fn declined(out: &mut Output, trim: u8, codes: &[u8])
+    ensures { out.new.to ≡ out.old.to }
+{
+    if 127 < trim || !keys::is_code(trim) {
+        out.hex(b"23 the trim key's code is no press of a key: ", trim);
+        out.end();
+    } else {
+        wrong_code(out, codes);
     }
-    let bad = codes::good(codes);
-    if bad < codes.len() {
-        let page = count(p, b"23 place ", bad);
-        return out::end(out::hex(page, b" is no press or release of a key: ", codes[bad]));
-    }
-    let wrong = codes::agreeing(codes);
-    if wrong < codes.len() {
-        return disagreement(p, wrong, codes[wrong]);
-    }
-    p
 }
 
 // The groups of a list, a line each, below the trim key and how many codes there are.
-fn body(p: Output, trim: u8, codes: &[u8], ends: &[usize], open: usize) -> Output {
-    let head = key(out::text(p, b"trim key "), trim);
-    let page = out::text(
-        count(head, b"; codes: ", codes.len()),
-        b"; + press, - release\n",
-    );
-    tail(lines(page, trim, codes, ends), codes, open)
+fn body(out: &mut Output, trim: u8, codes: &[u8], ends: &[usize], open: usize)
+    ensures { out.new.to ≡ out.old.to }
+{
+    out.text(b"trim key ");
+    key(out, trim);
+    count(out, b"; codes: ", codes.len());
+    out.text(b"; + press, - release\n");
+    lines(out, trim, codes, ends);
+    tail(out, codes, open);
 }
 
 // The groups of a list drawn, or why it is declined; of the codes since the restart there may have been more. The last line is a full stop.
-pub fn drawn(p: Output, trim: u8, codes: &[u8], more: bool) -> Output
-    ensures { result.page.at ≤ 256 }
+pub fn drawn(out: &mut Output, trim: u8, codes: &[u8], more: bool)
+    ensures { out.new.to ≡ out.old.to }
 {
-    let mut ends = [0usize; 8192];
-    let walked = undo::walk(trim, codes, &mut ends);
-    if walked.number != DONE {
-        return out::text(declined(p, trim, codes), b".\n");
+    // kept: no heap
+    let mut ends = [0; MOST];
+    match undo::walk(trim, codes, &mut ends) {
+        Ok(walked) => {
+            body(
+                out,
+                trim,
+                codes,
+                &ends[..walked.groups.min(MOST)],
+                walked.tail,
+            );
+            if more {
+                out.text(b"only the first 8192 codes since the restart are kept\n");
+            }
+        }
+        Err(_) => declined(out, trim, codes),
     }
-    let n = least(walked.groups, 8192);
-    let page = body(p, trim, codes, &ends[0..n], walked.tail);
-    if more {
-        return out::text(
-            page,
-            b"only the first 8192 codes since the restart are kept\n.\n",
-        );
-    }
-    out::text(page, b".\n")
+    out.text(b".\n");
 }

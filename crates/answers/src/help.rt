@@ -1,15 +1,13 @@
 // The lists of the commands and of the numbers; their last line is a full stop.
-ghost use Rattle.std.specs.Prelude.{◌≤◌};
+ghost use Rattle.std.specs.Prelude.{◌≡◌};
 
-use crate::out;
 use crate::out::Output;
 
 // The commands.
-pub fn commands(p: Output) -> Output
-    ensures { result.page.at ≤ 256 }
+pub fn commands(out: &mut Output)
+    ensures { out.new.to ≡ out.old.to }
 {
-    out::text(
-        p,
+    out.text(
         b"reset              the panel after reset; the contacts stay as they are\n\
         look S0 S1 ..      one look: a 16-bit sample for each row; bit c is column c, bit 12 the SF key, which hides its row\n\
         looks S0 S1 ..     a block of looks, eight samples each, up to the first declined; tells how many were done\n\
@@ -35,15 +33,14 @@ pub fn commands(p: Output) -> Output
         Samples, addresses, bytes and codes are hexadecimal; counts, rows, columns, rules and places are decimal; COL is 0 to 11, 12 or SF.\n\
         The answer is the call's number, 0 if it was done, and what was asked for.\n\
         .\n",
-    )
+    );
 }
 
 // The numbers.
-pub fn numbers(p: Output) -> Output
-    ensures { result.page.at ≤ 256 }
+pub fn numbers(out: &mut Output)
+    ensures { out.new.to ≡ out.old.to }
 {
-    out::text(
-        p,
+    out.text(
         b"A call answers with a number: 0 if it was done. Any other declines it, and nothing is altered but as 2 and 27 tell.\n\
         0  done\n\
         1  look: the list isn't eight samples, or a block's not a multiple of eight\n\
@@ -64,5 +61,5 @@ pub fn numbers(p: Output) -> Output
         27 access: the panel slept; it is awake now, so repeat the access\n\
         9 was given by no call, is retired and gets no new use.\n\
         .\n",
-    )
+    );
 }

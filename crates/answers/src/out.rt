@@ -1,5 +1,5 @@
 // Answers written out in pieces: the page is written out when it has no room for what comes next, and when all that has arrived is answered.
-ghost use Rattle.std.specs.Prelude.{◌≤◌, ◌+◌};
+ghost use Rattle.std.specs.Prelude.{◌≡◌, ◌≤◌, ◌+◌};
 
 use std::rt::Stdout;
 use text::lines::NEWLINE;
@@ -11,113 +11,107 @@ use text::page::Page;
 pub struct Output {
     pub page: Page,
     pub to: Stdout,
+    ghost inside: { page.at ≤ 256 },
 }
 
-// Writes out the first bytes of a list.
-fn send(to: Stdout, bytes: &[u8], at: usize) -> bool {
-    if at <= bytes.len() {
-        return to.write_all(&bytes[0..at]).is_ok();
+impl Output {
+    // A page with nothing on it, and where it is to be written out.
+    pub fn new(to: Stdout) -> Output
+        ensures { result.to ≡ to }
+    {
+        Output {
+            page: page::empty(),
+            to,
+        }
     }
-    false
-}
 
-// Writes out what stands on the page, and empties it.
-pub fn written(p: Output) -> Output
-    ensures { result.page.at ≤ 0 }
-{
-    let bytes = p.page.bytes;
-    let mut next = p;
-    next.page.ok = p.page.ok & send(p.to, &bytes, p.page.at);
-    next.page.at = 0;
-    next
-}
-
-// The page with room for so many bytes.
-fn room(p: Output, n: usize) -> Output
-    requires { n ≤ 256 }
-    ensures { result.page.at + n ≤ 256 }
-{
-    let at = p.page.at;
-    if at <= 256 - n {
-        return p;
+    // Could all that has left the page be written out?
+    pub fn is_ok(&self) -> bool
+        ensures { result ≡ self.now.page.ok }
+    {
+        self.page.ok
     }
-    written(p)
-}
 
-// Writes a byte.
-pub fn put(p: Output, byte: u8) -> Output
-    ensures { result.page.at ≤ 256 }
-{
-    let mut next = room(p, 1);
-    next.page = page::put(next.page, byte);
-    next
-}
-
-// Ends the line.
-pub fn end(p: Output) -> Output
-    ensures { result.page.at ≤ 256 }
-{
-    put(p, NEWLINE)
-}
-
-// Writes a text.
-pub fn text(p: Output, words: &[u8]) -> Output
-    ensures { result.page.at ≤ 256 }
-{
-    let mut next = room(p, 0);
-    let mut i: usize = 0;
-    while i < words.len() {
-        let n = page::least(words.len() - i, 256);
-        next = room(next, n);
-        next.page = page::text(next.page, &words[i..i + n]);
-        i = i + n;
+    // Writes out what stands on the page, and empties it.
+    pub fn flush(&mut self)
+        ensures { (self.new.page.at ≡ 0) × (self.new.to ≡ self.old.to) }
+    {
+        let sent = self.to.write_all(&self.page.bytes[..self.page.at]).is_ok();
+        self.page.ok &= sent;
+        self.page.at = 0;
     }
-    next
-}
 
-// Writes bytes, each behind a blank.
-pub fn listed(p: Output, bytes: &[u8]) -> Output
-    ensures { result.page.at ≤ 256 }
-{
-    let mut next = room(p, 0);
-    let mut i: usize = 0;
-    while i < bytes.len() {
-        let n = page::least(bytes.len() - i, 85);
-        next = room(next, n * 3);
-        next.page = page::listed(next.page, &bytes[i..i + n]);
-        i = i + n;
+    // Makes room on the page for so many bytes.
+    // kept: room is made, and then a piece goes on the page: one writer over a closure that puts the piece there would be no plainer.
+    fn room(&mut self, n: usize)
+        requires { n ≤ 256 }
+        ensures { (self.new.page.at + n ≤ 256) × (self.new.to ≡ self.old.to) }
+    {
+        if 256 - n < self.page.at {
+            self.flush();
+        }
     }
-    next
-}
 
-// Writes samples in base 16, each behind a blank.
-pub fn samples(p: Output, samples: &[u16]) -> Output
-    ensures { result.page.at ≤ 256 }
-{
-    let mut next = room(p, 0);
-    let mut i: usize = 0;
-    while i < samples.len() {
-        next = room(put(next, b' '), 4);
-        next.page = page::hexadecimal(next.page, samples[i]);
-        i = i + 1;
+    // Writes a byte.
+    pub fn put(&mut self, byte: u8)
+        ensures { self.new.to ≡ self.old.to }
+    {
+        self.room(1);
+        self.page.put(byte);
     }
-    next
-}
 
-// Writes a name, and a byte in base 16.
-pub fn hex(p: Output, name: &[u8], byte: u8) -> Output
-    ensures { result.page.at ≤ 256 }
-{
-    let mut next = room(text(p, name), 2);
-    next.page = page::hex(next.page, byte);
-    next
-}
+    // Ends the line.
+    pub fn end(&mut self)
+        ensures { self.new.to ≡ self.old.to }
+    {
+        self.put(NEWLINE);
+    }
 
-// Writes a number in base 10.
-pub fn decimal(p: Output, number: u32) -> Output
-    ensures { result.page.at ≤ 256 }
-{
-    let mut next = room(p, 10);
-    next.page = page::decimal(next.page, number);
-    next
+    // Writes a text.
+    pub fn text(&mut self, words: &[u8])
+        ensures { self.new.to ≡ self.old.to }
+    {
+        for part in words.chunks(256) {
+            self.room(part.len());
+            self.page.text(part);
+        }
+    }
+
+    // Writes bytes, each behind a blank.
+    pub fn listed(&mut self, bytes: &[u8])
+        ensures { self.new.to ≡ self.old.to }
+    {
+        for part in bytes.chunks(85) {
+            self.room(part.len() * 3);
+            self.page.listed(part);
+        }
+    }
+
+    // Writes samples in base 16, each behind a blank.
+    pub fn samples(&mut self, samples: &[u16])
+        ensures { self.new.to ≡ self.old.to }
+    {
+        for sample in samples {
+            self.put(b' ');
+            self.room(4);
+            self.page.hexadecimal(*sample);
+        }
+    }
+
+    // Writes a name, and a byte in base 16.
+    pub fn hex(&mut self, name: &[u8], byte: u8)
+        ensures { self.new.to ≡ self.old.to }
+    {
+        self.text(name);
+        self.room(2);
+        self.page.hex(byte);
+    }
+
+    // Writes a number in base 10.
+    pub fn decimal(&mut self, number: u32)
+        ensures { self.new.to ≡ self.old.to }
+    {
+        self.room(10);
+        self.page.decimal(number);
+    }
 }

@@ -9,20 +9,14 @@ pub fn is_room(bytes: usize, place: usize, n: usize) -> bool
     requires { (place ≤ 7) × (n ≤ 500) }
     ensures { result ≡ leb (place + n) (bytes * 8) }
 {
-    if 64 <= bytes {
-        return true;
-    }
-    place + n <= bytes * 8
+    64 <= bytes || place + n <= bytes * 8
 }
 
 // A byte of a list; 0 past its end.
 fn byte_at(bytes: &[u8], at: usize) -> u32
     ensures { (result ≡ get_or bytes.now at 0) × (result ≤ 255) }
 {
-    if at < bytes.len() {
-        return bytes[at] as u32;
-    }
-    0
+    bytes.get(at).map_or(0, |byte| u32::from(*byte))
 }
 
 // The number that 24 bits spell, from a byte on.
@@ -33,6 +27,7 @@ fn three_bytes(bytes: &[u8], at: usize) -> u32
     byte_at(bytes, at) * 65536 + byte_at(bytes, at + 1) * 256 + byte_at(bytes, at + 2)
 }
 
+// kept: `width ≤ 13` stands in five contracts: the callers write the width as a literal, and a type for it would be no plainer
 // The number that bits spell, from a place on.
 pub fn number_at(bytes: &[u8], place: usize, width: u32) -> u16
     requires { (place ≤ 1000) × (width ≤ 13) }
@@ -48,11 +43,10 @@ pub fn numbers_at(bytes: &[u8], place: usize, count: usize, width: u32) -> [u16;
     requires { (place ≤ 500) × (count ≤ 32) × (width ≤ 13) }
     ensures { result ≡ numbers count width (bits_from bytes.now place) ++ replicate (32 - count) 0 }
 {
+    // kept: no heap: 32 numbers, 0 behind those that are asked for
     let mut found = [0u16; 32];
-    let mut i: usize = 0;
-    while i < count {
+    for i in 0..count {
         found[i] = number_at(bytes, place + i * (width as usize), width);
-        i = i + 1;
     }
     found
 }
@@ -62,8 +56,8 @@ fn joined(byte: u8, bit: u32, x: u16, width: u32) -> u32
     requires { (bit ≤ 7) × (width ≤ 13) }
     ensures { (result ≡ number 24 (take bit (bits_of 8 byte) ++ bits_of width x)) × (result < 16777216) }
 {
-    let kept = (byte as u32) >> (8 - bit);
-    let low = (x as u32) % (1 << width);
+    let kept = u32::from(byte) >> (8 - bit);
+    let low = u32::from(x) % (1 << width);
     ((kept << width) + low) << (24 - bit - width)
 }
 
@@ -92,11 +86,10 @@ fn fill(out: &mut [u8], place: usize)
     ensures { out.new ≡ laid out.old place [] }
 {
     let bit = (place % 8) as u32;
-    if bit < 1 {
-        return;
+    if bit != 0 {
+        let at = place / 8;
+        out[at] = (joined(out[at], bit, 0, 0) / 65536) as u8;
     }
-    let at = place / 8;
-    out[at] = (joined(out[at], bit, 0, 0) / 65536) as u8;
 }
 
 // Numbers are laid into bits, one behind the other; 0 fills the last byte, also where there is no number.
@@ -105,9 +98,7 @@ pub fn put_all(out: &mut [u8], place: usize, numbers: &[u16], width: u32)
     ensures { out.new ≡ laid out.old place (spelled width numbers.now) }
 {
     fill(out, place);
-    let mut i: usize = 0;
-    while i < numbers.len() {
-        put(out, place + i * (width as usize), numbers[i], width);
-        i = i + 1;
+    for (i, x) in numbers.iter().enumerate() {
+        put(out, place + i * (width as usize), *x, width);
     }
 }

@@ -12,9 +12,7 @@ use borrow.Author.Tests.{eqb-true, eqb-false, ltb-true}
 use Rattle.words.proofs.Laws.{and_left, and_right}
 use Rattle.words.proofs.Lists.{by_test}
 use Rattle.wire.specs.declared.Wire.{Wire}
-use Rattle.wire.specs.declared.Handed.{Handed}
-use Rattle.wire.specs.declared.Kept.{Kept}
-use Rattle.wire.specs.Wire.{kept, named, one_more, take_byte, one_given, has_more, next_byte}
+use Rattle.wire.specs.Wire.{Handed, Kept, kept, named, one_more, take_byte, one_given, has_more, next_byte}
 
 module _ (w : Wire) where
   pub takes_cases : (P : Wire → Type 0) (x : ℕ)

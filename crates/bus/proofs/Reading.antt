@@ -25,8 +25,7 @@ use Rattle.state.specs.declared.Module.{Module}
 use Rattle.access.specs.Accesses.{bytes_read}
 use Rattle.calls.specs.Calls.{read_number, accessed, read_call, read_buffer}
 use Rattle.wire.specs.declared.Wire.{Wire}
-use Rattle.wire.specs.declared.Handed.{Handed}
-use Rattle.wire.specs.Wire.{longest, least, agreed, sent, counted, filled, opened, ahead, begin_read, next_byte}
+use Rattle.wire.specs.Wire.{Handed, longest, least, agreed, sent, counted, filled, opened, ahead, begin_read, next_byte}
 use Rattle.wire.proofs.Laws.{longest_most, run_longest, least_left, read_facts, read_prefix, bytes_length, first_bytes, agreed_all, filled_length, filled_take, byte_given}
 use Rattle.demands.specs.Machine.{Call, read, after}
 use Rattle.demands.specs.Ours as calls

@@ -28,8 +28,7 @@ use Rattle.sound.specs.Sound.{sound}
 use Rattle.calls.specs.Calls.{access_number, write_number, accessed, write_call}
 use Rattle.calls.proofs.Laws.{asleep_first, awake_then, write_awake}
 use Rattle.wire.specs.declared.Wire.{Wire}
-use Rattle.wire.specs.declared.Kept.{Kept}
-use Rattle.wire.specs.Wire.{counted, filled, opened, begin_write, one_more, take_byte}
+use Rattle.wire.specs.Wire.{Kept, counted, filled, opened, begin_write, one_more, take_byte}
 use Rattle.wire.proofs.Laws.{least_left, reaches, byte_names, byte_kept, byte_over}
 use Rattle.demands.specs.Machine.{Call, write, after}
 use Rattle.demands.specs.Ours as calls

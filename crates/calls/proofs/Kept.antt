@@ -1,6 +1,6 @@
 -- A LOOK LEAVES A SOUND MODULE SOUND, so a block judges soundness once.
 --
---    bare                        a sound module without its mask and PORIRQ is sound
+--    Judged m                    the module m is sound, and what the struct's types say of it
 --    still                       keys out of the size are still, as a look asks
 --    Held size q                 what soundness asks of the queue q, whose keys are in the size
 --    put_held, put_all_held       codes of keys in the size are put into such a queue
@@ -37,11 +37,15 @@ use Rattle.sound.specs.Sound.{key_sound, codes_sound, rest_unused, sound}
 use Rattle.sound.proofs.Laws.{sound_facts, facts_sound, sound_out}
 use Rattle.sound.proofs.Exactly.{run_said, said_key}
 use Rattle.scan.specs.Scan.{sight, contact_at, changes_below, changes, calm, contacts, noticed, looked}
-use Rattle.pins.specs.declared.Pins.{Pins}
-use Rattle.pins.specs.Pins.{fresh}
-use Rattle.scan.specs.Walk.{Altered, whole, Still}
+use Rattle.scan.specs.Walk.{Still}
 use Rattle.scan.proofs.Laws.{out_rests, looked_noticed}
-use Rattle.calls.specs.Walk.{Judged}
+
+pub record Judged (m : Module) : Type 0 where
+  pub keys : length m.held ≡ 104
+  pub runs : length m.run ≡ 104
+  pub places : length m.queue ≡ 15
+  pub low : m.bounce ≤ 255
+  pub ok : sound m ≡ true
 
 -- ---- the queue
 record Held (size : ℕ) (q : Queue) : Type 0 where
@@ -84,13 +88,8 @@ put_all_held size [] q e h = h
 put_all_held size (c ∷ cs) q e h =
     put_all_held size cs (put q c) (all_rest (code_in size) c cs e) (put_held size q.places q.count q.relint c h (all_first (code_in size) c cs e))
 
-pub bare : (d size : ℕ) (a : Altered) (mask : ℕ) (porirq : Bool) (pins : Pins) → sound (whole d size a mask porirq pins) ≡ true → sound (whole d size a 0 false fresh) ≡ true
-bare d size a mask porirq pins ok =
-    let f = sound_facts (whole d size a mask porirq pins) ok in
-    facts_sound (whole d size a 0 false fresh) (record { size = f.size; keys = f.keys; few = f.few; codes = f.codes; rest = f.rest; mask = omega arith; marks = f.marks; counted = f.counted; asleep = f.asleep })
-
-pub still : (m : Module) → Judged m → Still m.size m.held m.run
-still m j = record { rows = rows_most m.size (sound_facts m j.ok).size; keys = sound_out m j.ok }
+pub still : (m : Module) → sound m ≡ true → Still m.size m.held m.run
+still m ok = record { rows = rows_most m.size (sound_facts m ok).size; keys = sound_out m ok }
 
 -- ---- the flags
 noticed_kept : (m : Module) → Judged m → Judged (noticed m)

@@ -11,9 +11,8 @@
 --    begun ws i                         the first i calls of a list of numbers
 --    begun_none, begun_next, begun_all  none of them, one more, all
 --    begun_rest                         a list begins with its first calls
---    call_within                        a call of the list has its 35 numbers in it
 -- Assumes nothing.
-use Prim.Native.Nat.{ℕ, zero, suc, ◌+◌, ◌-◌, ◌*◌, ◌/◌, ◌%◌, ◌≤◌, ◌<◌}
+use Prim.Native.Nat.{ℕ, zero, suc, ◌+◌, ◌-◌, ◌*◌, ◌/◌, ◌%◌, ◌≤◌}
 use native.Mathlib.Numerals.{add-one}
 use native.Mathlib.Omega.{arith}
 use mathlib.Core.Path.{◌≡◌, refl, sym, ap, ◌∙◌}
@@ -23,8 +22,8 @@ use borrow.Author.Tests.{ltb-true}
 use lib.ListN.{length, get_or, take, drop, length-drop, replicate}
 use lib.Seq.{length-take-le, get_or-take, take_all}
 use Rattle.words.specs.Words.{all, table}
-use Rattle.words.proofs.Laws.{and_left, and_right, all_first, all_rest}
 use Rattle.words.proofs.Tables.{replaced, replaced_all, by_table}
+use Rattle.words.proofs.Laws.{and_left, and_right, all_first, all_rest}
 use Rattle.bits.specs.Bits.{below, spelled}
 use Rattle.bits.proofs.Laws.{bits_low_only}
 use Rattle.carry.specs.declared.call.Call.{Call}
@@ -136,6 +135,3 @@ module _ (ws : List ℕ) where
       let n = length ws / 35 in
       let e : n ≡ i + (n - i) = omega arith in
       (table (λ j. f (i + j)) (n - i), ap (table f) e ∙ table_more f i (n - i))
-
-  pub call_within : (i : ℕ) → i < length ws / 35 → i * 35 + 35 ≤ length ws
-  call_within i h = omega arith

@@ -1,32 +1,32 @@
 -- Laws of the player.
 --
---    lowered values i                        the first i of 32 numbers as bytes, then 0
---    lowered_none, lowered-next, lowered-all none of them; one more; all
 --    look_count, write_count, read_count     a call that fits has at most 32 samples or bytes
 --    step_look, step_write, ..               the step of each kind, as the call gives it
 --    carried_told, told_fits                 the numbers of what is told tell it, and fit
 --    play_on m o                              the module m after the calls o, if there are any to be had
 --    play_front, play_end, play_more         playing from the front, at the end, and on behind a record
 --    next_there                              in a list the next record is all there
---    play_next                               playing on from the next boundary
+--    play_over, play_next                    at the end all is played; playing on from the next boundary
 --    play_done, play_declined                what the player hands back, by the check's number
 --    played, not_played                      the state that the calls of a list give, one after the other; 20 for what is no list
 -- Assumes nothing.
-use Prim.Native.Nat.{ℕ, zero, suc, ◌+◌, ◌*◌, ◌-◌, ◌/◌, ◌%◌, ◌≤◌, ◌<◌}
+use Prim.Native.Nat.{ℕ, zero, suc, ◌+◌, ◌-◌, ◌%◌, ◌≤◌}
 use native.Mathlib.Nat.{sub-zero}
 use native.Mathlib.Omega.{arith}
 use mathlib.Core.Path.{◌≡◌, refl, sym, ap, ◌∙◌}
 use mathlib.Core.Bool.{Bool, true, false, ◌&&◌}
 use mathlib.Core.List.{List, [], ◌∷◌, map}
 use mathlib.Core.Option.{Option, none, some}
-use borrow.Author.Tests.{leb-true, eqb-true, ne_eqb}
+use borrow.Author.Tests.{leb-true, eqb-true}
 use lib.Dec.{eqb, leb}
-use lib.ListN.{length, take, get_or, set, replicate, get_or-map}
+use lib.ListN.{length, take, replicate}
 use lib.Seq.{length-take-le}
 use Rattle.words.specs.Words.{all}
 use Rattle.words.proofs.Laws.{true_false, and_left, and_right}
 use Rattle.words.proofs.Lists.{by_test}
-use Rattle.words.proofs.Tables.{by_table, replaced, replaced_none, replaced_all, replaced_next}
+use Rattle.numbers.specs.Refusals.{number}
+use Rattle.numbers.specs.declared.Refusal.{Refusal}
+use Rattle.numbers.proofs.Laws.{refused}
 use Rattle.bits.specs.Bits.{below, spelled, bits_from}
 use Rattle.bits.proofs.Laid.{from_front, from_more}
 use Rattle.state.specs.declared.Module.{Module}
@@ -34,36 +34,20 @@ use Rattle.state.specs.Module.{fresh}
 use Rattle.calls.specs.declared.Done.{Done}
 use Rattle.calls.specs.Calls.{reset_call, look_call, write_call, read_call}
 use Rattle.carry.specs.declared.call.Call.{Call}
-use Rattle.carry.specs.Carried.{Carried, reset, count_fits, fits, size, told, ended, before, calls_of, unpack}
-use Rattle.carry.specs.Calls.{firsts, low, of_kind, carried, call_of}
+use Rattle.carry.specs.declared.call.Place.{Place}
+use Rattle.carry.specs.Places.{bits_to}
+use Rattle.carry.specs.Carried.{Carried, count_fits, fits, size, told, ended, before, calls_of, unpack}
+use Rattle.carry.specs.Calls.{firsts, low, carried, call_of}
+use Rattle.carry.specs.Next.{Whole}
 use Rattle.carry.specs.Reader.{is_list, check_number}
 use Rattle.carry.specs.Player.{stepped, played_from, played_as, play_call}
 use Rattle.carry.proofs.Laws.{boundary_read, fits_told}
-use Rattle.carry.proofs.Lists.{firsts_length, firsts_take, is_look, is_write, is_read, carried_fits}
-use Rattle.carry.proofs.Reading.{list_cut, check_cut, check_list, check_exactly, Next, Boundary, bytes_from, bits_here, end_here, size_here, place_next}
+use Rattle.carry.proofs.Lists.{firsts_length, firsts_take, is_look, is_write, is_read, is_reset, carried_fits}
+use Rattle.carry.proofs.Reading.{list_cut, check_cut, check_list, check_exactly, whole_room, Boundary}
 
-map_length : (f : ℕ → ℕ) (xs : List ℕ) → length (map f xs) ≡ length xs
+pub map_length : (f : ℕ → ℕ) (xs : List ℕ) → length (map f xs) ≡ length xs
 map_length f [] = refl
 map_length f (x ∷ xs) = ap suc (map_length f xs)
-
--- the first i of 32 numbers as bytes, then 0
-unfoldable pub lowered : List ℕ → ℕ → List ℕ
-lowered values i = replaced (λ k. low (get_or values k 0)) i (replicate 32 0)
-
-module _ (values : List ℕ) where
-  pub lowered_none : replicate 32 0 ≡ lowered values 0
-  unfolding lowered
-  lowered_none = sym (replaced_none (λ k. low (get_or values k 0)) (replicate 32 0))
-
-  pub lowered_next : {out : List ℕ} {i : ℕ} → i < 32 → out ≡ lowered values i → set out i (get_or values i 0 % 256) ≡ lowered values (i + 1)
-  unfolding lowered low
-  lowered_next {i = i} h e = rw e (replaced_next (λ k. low (get_or values k 0)) (replicate 32 0) i h)
-
-  pub lowered_all : length values ≡ 32 → lowered values 32 ≡ map low values
-  unfolding lowered low
-  lowered_all n =
-      let f : ℕ → ℕ = λ k. low (get_or values k 0) in
-      replaced_all f (replicate 32 0) 32 refl ∙ by_table 0 f 32 (map low values) (map_length low values ∙ n) (λ k h. sym (get_or-map low values k 0))
 
 map_take : (f : ℕ → ℕ) (n : ℕ) (xs : List ℕ) → map f (take n xs) ≡ take n (map f xs)
 map_take f zero xs = refl
@@ -76,10 +60,6 @@ fits_most n h = leb-true n 32 (and_right (leb 1 n) (leb n 32) h)
 
 -- a call as numbers
 module _ (c : Call) where
-  as_reset : (c.kind % 4 ≡ 0 → ⊥) → (c.kind % 4 ≡ 1 → ⊥) → (c.kind % 4 ≡ 2 → ⊥) → carried c ≡ reset
-  unfolding carried of_kind
-  as_reset p q r = rw (ne_eqb (c.kind % 4) 0 p, ne_eqb (c.kind % 4) 1 q, ne_eqb (c.kind % 4) 2 r)
-
   module _ (h : fits (carried c) ≡ true) where
     pub look_count : c.kind % 4 ≡ 0 → c.count ≤ 32
     unfolding fits
@@ -106,28 +86,26 @@ module _ (c : Call) where
 
 -- the step of each kind, as the calls give it
 module _ (m : Module) (c : Call) where
-  pub step_look : {d : Done} → c.kind % 4 ≡ 0 → c.count ≤ length c.values
-      → d ≡ look_call m (take (c.count - 0) c.values) → d.after ≡ stepped m (carried c)
+  pub step_look : {after : Module} {n : ℕ} → c.kind % 4 ≡ 0 → c.count ≤ length c.values → n ≡ c.count
+      → after ≡ (look_call m (take (n - 0) c.values)).after → after ≡ stepped m (carried c)
   unfolding stepped
-  step_look e h g = rw (is_look c e, firsts_take c.count c.values h) (ap (λ (d : Done). d.after) (rw (sub-zero c.count) at g))
+  step_look e h f g = rw (is_look c e, firsts_take c.count c.values h) (rw (f, sub-zero c.count) at g)
 
-  pub step_write : {d : Done} {bytes : List ℕ} → c.kind % 4 ≡ 1 → c.count ≤ length c.values → bytes ≡ map low c.values
-      → d ≡ write_call m (c.first % 256) (take (c.count - 0) bytes) → d.after ≡ stepped m (carried c)
+  pub step_write : {after : Module} {n : ℕ} {bytes : List ℕ} → c.kind % 4 ≡ 1 → c.count ≤ length c.values → n ≡ c.count → bytes ≡ map low c.values
+      → after ≡ (write_call m (c.first % 256) (take (n - 0) bytes)).after → after ≡ stepped m (carried c)
   unfolding stepped low
-  step_write e h b g =
-      rw (is_write c e, firsts_take c.count c.values h, map_take low c.count c.values, ← b)
-      (ap (λ (d : Done). d.after) (rw (sub-zero c.count) at g))
+  step_write e h f b g = rw (is_write c e, firsts_take c.count c.values h, map_take low c.count c.values, ← b) (rw (f, sub-zero c.count) at g)
 
-  pub step_read : {d : Done} → c.kind % 4 ≡ 2 → c.count ≤ 32
-      → d ≡ read_call m (c.first % 256) (length {A = ℕ} (take (c.count - 0) (replicate 32 0))) → d.after ≡ stepped m (carried c)
+  pub step_read : {after : Module} {n : ℕ} → c.kind % 4 ≡ 2 → c.count ≤ 32 → n ≡ c.count
+      → after ≡ (read_call m (c.first % 256) (length {A = ℕ} (take (n - 0) (replicate 32 0)))).after → after ≡ stepped m (carried c)
   unfolding stepped low
-  step_read e h g =
+  step_read e h f g =
       let n = length-take-le {A = ℕ} c.count (replicate 32 0) h in
-      rw (is_read c e) (ap (λ (d : Done). d.after) (rw (sub-zero c.count, n) at g))
+      rw (is_read c e) (rw (f, sub-zero c.count, n) at g)
 
-  pub step_reset : {d : Done} → (c.kind % 4 ≡ 0 → ⊥) → (c.kind % 4 ≡ 1 → ⊥) → (c.kind % 4 ≡ 2 → ⊥) → d ≡ reset_call → d.after ≡ stepped m (carried c)
+  pub step_reset : {d : Done} → c.kind % 4 ≡ 3 → d ≡ reset_call → d.after ≡ stepped m (carried c)
   unfolding stepped
-  step_reset p q r g = rw (as_reset c p q r) (ap (λ (d : Done). d.after) g)
+  step_reset k g = rw (is_reset c k) (ap (λ (d : Done). d.after) g)
 
 -- the numbers of what is told tell it
 pub carried_told : (bits : List Bool) → carried (call_of (told bits)) ≡ told bits
@@ -157,38 +135,38 @@ module _ (bytes : List ℕ) where
   unfolding play_on played_from
   play_end m p e = rw (boundary_read (bits_from bytes p), e)
 
-  pub play_more : (m : Module) (p s : ℕ) → Next bytes p s true
+  pub play_more : (m : Module) (p s : ℕ) → Whole (bits_from bytes p) s
       → play_on m (calls_of (bits_from bytes p)) ≡ play_on (stepped m (told (bits_from bytes p))) (calls_of (bits_from bytes (p + s)))
   play_more m p s next =
-      rw (boundary_read (bits_from bytes p), next.more, next.room, ← next.long, from_more bytes p s)
+      rw (boundary_read (bits_from bytes p), next.more, whole_room next, ← next.long, from_more bytes p s)
       (play_before m (told (bits_from bytes p)) (calls_of (bits_from bytes (p + s))))
 
 -- in a list the next record is all there
 next_whole : (bytes : List ℕ) (p s : ℕ) → is_list (calls_of (bits_from bytes p)) ≡ true → ended (bits_from bytes p) ≡ false
-    → s ≡ size (told (bits_from bytes p)) → Next bytes p s true
+    → (s ≡ size (told (bits_from bytes p))) × (2 ≤ s) × (s ≤ 271) → Whole (bits_from bytes p) s
 next_whole bytes p s h e n =
     let bits = bits_from bytes p in
-    record {
-      more = e;
-      long = n;
-      room = by_test (λ b. b ≡ true) (leb (size (told bits)) (length bits)) (λ l. refl) (λ l. true_false (sym h ∙ list_cut bits e l));
-    }
+    let whole =
+    by_test (λ b. b ≡ true) (leb (size (told bits)) (length bits)) (λ l. refl) (λ l. true_false (sym h ∙ list_cut bits e l)) in
+    record { more = e; long = n.0; room = rw (← n.0) at (leb-true (size (told bits)) (length bits) whole); least = n.1; most = n.2 }
 
-module _ {bytes : List ℕ} {byte bit : ℕ} (at : Boundary bytes byte bit) where
-  -- what is_end and size_at answer in a list
-  pub next_there : {e : Bool} {s : ℕ} → is_list (unpack bytes) ≡ true → e ≡ ended (bits_from (bytes_from bytes byte) bit) → e ≡ false
-      → s ≡ size (told (bits_from (bytes_from bytes byte) bit)) → Next bytes (byte * 8 + bit) s true
+module _ {bytes : List ℕ} {place : Place} (at : Boundary bytes place) {here : List Bool} (same : here ≡ bits_from bytes (bits_to place)) where
+  -- what is_end and size answer in a list
+  pub next_there : {e : Bool} {s : ℕ} → is_list (unpack bytes) ≡ true → e ≡ ended here → e ≡ false → (s ≡ size (told here)) × (2 ≤ s) × (s ≤ 271)
+      → Whole (bits_from bytes (bits_to place)) s
   next_there {s = s} h told_end going long =
-      next_whole bytes (byte * 8 + bit) s (at.list ∙ h) (end_here bytes byte bit told_end going) (size_here bytes byte bit {s = s} long)
+      next_whole bytes (bits_to place) s (at.list ∙ h) (sym (told_end ∙ ap ended same) ∙ going) (rw same at long)
 
-  -- what told_at and step answer
-  pub play_next : {s : ℕ} {c : Call} {n all : Module} (m : Module) → Next bytes (byte * 8 + bit) s true
-      → c ≡ call_of (told (bits_from (bytes_from bytes byte) bit)) → n ≡ stepped m (carried c) → play_on m (calls_of (bits_from bytes (byte * 8 + bit))) ≡ all
-      → play_on n (calls_of (bits_from bytes ((byte + (bit + s) / 8) * 8 + (bit + s) % 8))) ≡ all
-  play_next {s} {c} m next f g h =
-      let p = byte * 8 + bit in
-      let e : carried c ≡ told (bits_from (bytes_from bytes byte) bit) = ap carried f ∙ carried_told (bits_from (bytes_from bytes byte) bit) in
-      rw (place_next byte bit s, g, e, bits_here bytes byte bit) (sym (play_more bytes m p s next) ∙ h)
+  pub play_over : {e : Bool} (m : Module) {all : Module} → e ≡ ended here → e ≡ true → play_on m (calls_of (bits_from bytes (bits_to place))) ≡ all → m ≡ all
+  play_over m told_end over h = sym (play_end bytes m (bits_to place) (sym (told_end ∙ ap ended same) ∙ over)) ∙ h
+
+  -- what told and step answer
+  pub play_next : {s : ℕ} (behind : Place) {c : Call} {n all : Module} (m : Module) → Whole (bits_from bytes (bits_to place)) s → bits_to behind ≡ bits_to place + s
+      → c ≡ call_of (told here) → n ≡ stepped m (carried c) → play_on m (calls_of (bits_from bytes (bits_to place))) ≡ all
+      → play_on n (calls_of (bits_from bytes (bits_to behind))) ≡ all
+  play_next {s} behind {c = c} m next there f g h =
+      let e : carried c ≡ told here = ap carried f ∙ carried_told here in
+      rw (there, g, e, same) (sym (play_more bytes m (bits_to place) s next) ∙ h)
 
 pub told_fits : {c : Call} (bits : List Bool) → c ≡ call_of (told bits) → fits (carried c) ≡ true
 told_fits bits e = rw (e, carried_told bits) (fits_told bits)
@@ -204,17 +182,17 @@ unfolding is_list played_as
 none_played none h = refl
 none_played (some cs) h = true_false h
 
-module _ (bytes : List ℕ) {n : ℕ} {x : Module} (e : n ≡ check_number bytes) where
-  pub play_done : n ≡ 0 → x ≡ (played_as (unpack bytes)).after → record { after = x; number = 0 } ≡ play_call bytes
+module _ (bytes : List ℕ) where
+  pub play_done : {x : Module} → check_number bytes ≡ 0 → x ≡ (played_as (unpack bytes)).after → record { after = x; number = 0 } ≡ play_call bytes
   unfolding play_call
-  play_done f g = done_played (unpack bytes) x (check_list bytes (sym e ∙ f)) g
+  play_done {x} e g = done_played (unpack bytes) x (check_list bytes e) g
 
-  pub play_declined : (n ≡ 0 → ⊥) → x ≡ fresh → record { after = x; number = n } ≡ play_call bytes
+  pub play_declined : {x : Module} (r : Refusal) → number r ≡ check_number bytes → x ≡ fresh → record { after = x; number = number r } ≡ play_call bytes
   unfolding play_call
-  play_declined f g = go (is_list (unpack bytes)) refl
+  play_declined {x} r e g = go (is_list (unpack bytes)) refl
     where
-      go : (b : Bool) → is_list (unpack bytes) ≡ b → record { after = x; number = n } ≡ played_as (unpack bytes)
-      go true h = absurd (f (e ∙ (check_exactly bytes).1 h))
+      go : (b : Bool) → is_list (unpack bytes) ≡ b → record { after = x; number = number r } ≡ played_as (unpack bytes)
+      go true h = absurd (refused r (e ∙ (check_exactly bytes).1 h))
       go false h = rw (g, e, check_cut bytes h) (none_played (unpack bytes) h)
 
 -- "a player that runs a list from a fresh reset and ends in the state the single calls give"

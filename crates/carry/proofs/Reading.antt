@@ -7,15 +7,14 @@
 --    list_end, list_cut, list_more   bits at a boundary are a list, are none, or are one just if those behind the record are
 --    check_cut, check_list           the number of what is no list; what has the number 0 is a list
 --    check_exactly, check_either     0 for just the bytes that are a list; the number is 0 or 20
---    Next bytes p s whole            at the place p a record of s bits is next; its bits are all there, or not
---    Boundary bytes byte bit         a place between records
+--    kind_low                        a record's kind is one of four
+--    Boundary bytes place            a place between records
 --    bytes_from bytes byte            the bytes from one on
---    bits_here, end_here, size_here, next_here     what is told of the bytes from one on
---    place_next                      the place behind a record
+--    at_here                         the bits of the bytes from one on
+--    next_in                         the place behind a record is in the list
 --    boundary_front, boundary_next, boundary_less  the front is a boundary; so is the place behind a record, and nearer to the end
 --    check_end, check_short          the number, told at a boundary: at the end, or at a record that is cut short
---    place_in, place_beyond          a place in the list, and one beyond its last bit
---    record_high, record_beyond, record_end, record_short, record_call     what is found at a place
+--    record_out, record_end, record_short, record_call     what is found at a place
 --    walked                          a list that can be read is walked from the front: its calls, then its end
 -- Assumes nothing.
 use Prim.Native.Nat.{ℕ, zero, suc, ◌+◌, ◌*◌, ◌-◌, ◌/◌, ◌%◌, ◌^◌, ◌≤◌, ◌<◌}
@@ -26,17 +25,25 @@ use mathlib.Core.Logic.{◌↔◌, ◌⊎◌, inl, inr}
 use mathlib.Core.Bool.{Bool, true, false, not, cond, ◌&&◌}
 use mathlib.Core.List.{List, [], ◌∷◌, ◌++◌}
 use mathlib.Core.Option.{Option, none, some, some-injective}
-use borrow.Author.Tests.{lt-ltb, le-ltb, le-leb, lt-leb, ltb-true, leb-true, leb-false, ne_eqb, not-true, not-false}
+use borrow.Author.Tests.{lt-ltb, le-ltb, le-leb, lt-leb, ltb-true, leb-true, leb-false, ne_eqb}
 use borrow.Author.Rules.{part_to_end}
 use lib.Dec.{eqb, leb, ltb}
-use lib.ListN.{length, take, drop, get_or, replicate, length-drop}
+use lib.ListN.{length, take, drop, get_or, replicate}
 use Rattle.words.specs.Words.{all}
 use Rattle.words.proofs.Lists.{by_test}
 use Rattle.numbers.specs.Numbers.{number_of}
 use Rattle.bits.specs.Bits.{below, front, value, number, numbers, bits_from}
 use Rattle.bits.proofs.Laws.{number_fits, numbers_length}
 use Rattle.bits.proofs.Laid.{from_part, from_length, from_front, from_more}
+use Rattle.std.proofs.Common.{⊎_elim}
+use Rattle.std.proofs.lemmas.Bool.{cases_lt}
+use Rattle.std.specs.Prelude.{Ok, Err, None}
+use Rattle.numbers.specs.Refusals as refusals
+use Rattle.numbers.specs.declared.Refusal.{Refusal}
 use Rattle.carry.specs.declared.call.Call.{Call}
+use Rattle.carry.specs.declared.call.Place.{Place}
+use Rattle.carry.specs.Places.{bits_to}
+use Rattle.carry.specs.Next.{Whole, Comes}
 use Rattle.carry.specs.Carried.{Carried, look, write, read, reset, packed, size, told_as, told, ended, before, calls, calls_of, unpack}
 use Rattle.carry.specs.Calls.{filled, call_of}
 use Rattle.carry.specs.Reader.{is_list, check_number, call, end, nothing, found_in, found_at, no_call, record_of, record_at, Walk}
@@ -77,13 +84,6 @@ module _ (bytes : List ℕ) (p : ℕ) where
   told_as_lem : (k : ℕ) → number 2 (bits_from bytes p) ≡ k → told (bits_from bytes p) ≡ kind_told k bytes p
   told_as_lem k e = told_kind ∙ ap (λ (n : ℕ). kind_told n bytes p) e
 
-  as_reset : (k : ℕ) → (k ≡ 0 → ⊥) → (k ≡ 1 → ⊥) → (k ≡ 2 → ⊥) → kind_told k bytes p ≡ reset
-  unfolding kind_told
-  as_reset zero a b c = absurd (a refl)
-  as_reset (suc zero) a b c = absurd (b refl)
-  as_reset (suc (suc zero)) a b c = absurd (c refl)
-  as_reset (suc (suc (suc k))) a b c = refl
-
   -- how long a record is
   pub look_size : number 2 (bits_from bytes p) ≡ 0 → ◌≡◌ {A = ℕ} 106 (size (told (bits_from bytes p)))
   unfolding kind_told
@@ -103,37 +103,38 @@ module _ (bytes : List ℕ) (p : ℕ) where
   unfolding kind_told
   read_size e = sym (ap size (told_as_lem 2 e) ∙ size_read (number 8 (bits_from bytes (p + 2))) (suc (number 5 (bits_from bytes (p + 10)))))
 
-  told_reset : (k : ℕ) → k ≡ number 2 (bits_from bytes p) → (k ≡ 0 → ⊥) → (k ≡ 1 → ⊥) → (k ≡ 2 → ⊥) → told (bits_from bytes p) ≡ reset
-  told_reset k e a b c = told_as_lem k (sym e) ∙ as_reset k a b c
-
-  pub reset_size : (k : ℕ) → k ≡ number 2 (bits_from bytes p) → (k ≡ 0 → ⊥) → (k ≡ 1 → ⊥) → (k ≡ 2 → ⊥)
-      → ◌≡◌ {A = ℕ} 2 (size (told (bits_from bytes p)))
-  unfolding size packed
-  reset_size k e a b c = sym (ap size (told_reset k e a b c))
+  pub reset_size : number 2 (bits_from bytes p) ≡ 3 → ◌≡◌ {A = ℕ} 2 (size (told (bits_from bytes p)))
+  unfolding kind_told size packed
+  reset_size e = sym (ap size (told_as_lem 3 e))
 
   -- its call as numbers
-  pub look_call_lem : (values : List ℕ) → number 2 (bits_from bytes p) ≡ 0 → values ≡ numbers 8 13 (bits_from bytes (p + 2)) ++ replicate 24 0
-      → ◌≡◌ {A = Call} (record { kind = 0; first = 0; count = 8; values = values }) (call_of (told (bits_from bytes p)))
+  pub look_call_lem : (k : ℕ) (values : List ℕ) → number 2 (bits_from bytes p) ≡ 0 → k ≡ 0 → values ≡ numbers 8 13 (bits_from bytes (p + 2)) ++ replicate 24 0
+      → ◌≡◌ {A = Call} (record { kind = k; first = 0; count = 8; values = values }) (call_of (told (bits_from bytes p)))
   unfolding call_of filled kind_told
-  look_call_lem values e f = rw (told_as_lem 0 e, numbers_length 13 8 (bits_from bytes (p + 2)), f)
+  look_call_lem k values e z f = rw (told_as_lem 0 e, numbers_length 13 8 (bits_from bytes (p + 2)), f, z)
 
-  pub write_call_lem : (a n : ℕ) (values : List ℕ) → number 2 (bits_from bytes p) ≡ 1 → a ≡ number 8 (bits_from bytes (p + 2))
+  pub write_call_lem : (k a n : ℕ) (values : List ℕ) → number 2 (bits_from bytes p) ≡ 1 → k ≡ 1 → a ≡ number 8 (bits_from bytes (p + 2))
       → n ≡ suc (number 5 (bits_from bytes (p + 10))) → values ≡ numbers n 8 (bits_from bytes (p + 15)) ++ replicate (32 - n) 0
-      → ◌≡◌ {A = Call} (record { kind = 1; first = a; count = n; values = values }) (call_of (told (bits_from bytes p)))
+      → ◌≡◌ {A = Call} (record { kind = k; first = a; count = n; values = values }) (call_of (told (bits_from bytes p)))
   unfolding call_of filled kind_told
-  write_call_lem a n values e f g h =
+  write_call_lem k a n values e z f g h =
       let m = suc (number 5 (bits_from bytes (p + 10))) in
-      rw (told_as_lem 1 e, numbers_length 8 m (bits_from bytes (p + 15)), h, f, g)
+      rw (told_as_lem 1 e, numbers_length 8 m (bits_from bytes (p + 15)), h, f, g, z)
 
-  pub read_call_lem : (a n : ℕ) → number 2 (bits_from bytes p) ≡ 2 → a ≡ number 8 (bits_from bytes (p + 2)) → n ≡ suc (number 5 (bits_from bytes (p + 10)))
-      → ◌≡◌ {A = Call} (record { kind = 2; first = a; count = n; values = replicate 32 0 }) (call_of (told (bits_from bytes p)))
+  pub read_call_lem : (k a n : ℕ) → number 2 (bits_from bytes p) ≡ 2 → k ≡ 2 → a ≡ number 8 (bits_from bytes (p + 2)) → n ≡ suc (number 5 (bits_from bytes (p + 10)))
+      → ◌≡◌ {A = Call} (record { kind = k; first = a; count = n; values = replicate 32 0 }) (call_of (told (bits_from bytes p)))
   unfolding call_of filled kind_told
-  read_call_lem a n e f g = rw (told_as_lem 2 e, f, g)
+  read_call_lem k a n e z f g = rw (told_as_lem 2 e, f, g, z)
 
-  pub reset_call_lem : (k : ℕ) → k ≡ number 2 (bits_from bytes p) → (k ≡ 0 → ⊥) → (k ≡ 1 → ⊥) → (k ≡ 2 → ⊥)
-      → ◌≡◌ {A = Call} (record { kind = 3; first = 0; count = 0; values = replicate 32 0 }) (call_of (told (bits_from bytes p)))
-  unfolding call_of filled
-  reset_call_lem k e a b c = rw (told_reset k e a b c)
+  pub reset_call_lem : (k : ℕ) → number 2 (bits_from bytes p) ≡ 3 → k ≡ 3
+      → ◌≡◌ {A = Call} (record { kind = k; first = 0; count = 0; values = replicate 32 0 }) (call_of (told (bits_from bytes p)))
+  unfolding call_of filled kind_told
+  reset_call_lem k e z = rw (told_as_lem 3 e, z)
+
+-- the kind of a record is one of four
+pub kind_low : (bits : List Bool) (n : ℕ) → n ≡ number 2 bits → n % 4 ≡ number 2 bits
+unfolding below
+kind_low bits n e = let l = ltb-true (number 2 bits) 4 (number_fits 2 bits) in omega arith
 
 -- a count less one
 pub count_low : (bits : List Bool) (n : ℕ) → n ≡ number 5 bits → n ≤ 31
@@ -212,129 +213,107 @@ module _ (bytes : List ℕ) where
       go true e = inl (check_done e)
       go false e = inr (check_cut e)
 
--- at the place p a record of s bits is next; its bits are all there, or not
-pub record Next (bytes : List ℕ) (p s : ℕ) (whole : Bool) : Type 0 where
-  pub more : ended (bits_from bytes p) ≡ false
-  pub long : s ≡ size (told (bits_from bytes p))
-  pub room : leb (size (told (bits_from bytes p))) (length (bits_from bytes p)) ≡ whole
-
 -- a boundary between records: the bits from there on are a list just if all are
-pub record Boundary (bytes : List ℕ) (byte bit : ℕ) : Type 0 where
-  pub low : bit ≤ 7
-  pub inside : byte * 8 + bit ≤ length bytes * 8
-  pub list : is_list (calls_of (bits_from bytes (byte * 8 + bit))) ≡ is_list (unpack bytes)
+pub record Boundary (bytes : List ℕ) (place : Place) : Type 0 where
+  pub low : place.bit ≤ 7
+  pub inside : bits_to place ≤ length bytes * 8
+  pub list : is_list (calls_of (bits_from bytes (bits_to place))) ≡ is_list (unpack bytes)
 
 -- the bytes from one on
 abbrev pub bytes_from : List ℕ → ℕ → List ℕ
 bytes_from bytes byte = take (length bytes - byte) (drop byte bytes)
 
 -- what is told of the bytes from one on
-module _ (bytes : List ℕ) (byte bit : ℕ) where
-  pub bits_here : bits_from (bytes_from bytes byte) bit ≡ bits_from bytes (byte * 8 + bit)
-  bits_here = ap (λ (l : List ℕ). bits_from l bit) (part_to_end bytes byte) ∙ from_part bytes byte bit
+bits_here : (bytes : List ℕ) (byte bit : ℕ) → bits_from (bytes_from bytes byte) bit ≡ bits_from bytes (byte * 8 + bit)
+bits_here bytes byte bit = ap (λ (l : List ℕ). bits_from l bit) (part_to_end bytes byte) ∙ from_part bytes byte bit
 
-  pub end_here : {r b : Bool} → r ≡ ended (bits_from (bytes_from bytes byte) bit) → r ≡ b → ended (bits_from bytes (byte * 8 + bit)) ≡ b
-  end_here e f = sym (e ∙ ap ended bits_here) ∙ f
+pub at_here : (bytes : List ℕ) (place : Place) {bit : ℕ} → bit ≡ place.bit → bits_from (bytes_from bytes place.byte) bit ≡ bits_from bytes (bits_to place)
+at_here bytes place e = ap (bits_from (bytes_from bytes place.byte)) e ∙ bits_here bytes place.byte place.bit
 
-  pub size_here : {s : ℕ} → s ≡ size (told (bits_from (bytes_from bytes byte) bit)) → s ≡ size (told (bits_from bytes (byte * 8 + bit)))
-  size_here e = e ∙ ap (λ (bits : List Bool). size (told bits)) bits_here
-
-  room_same : (s : ℕ) → byte * 8 + bit ≤ length bytes * 8 → leb (bit + s) (length (bytes_from bytes byte) * 8) ≡ leb s (length (bits_from bytes (byte * 8 + bit)))
-  room_same s h =
-      let here = length (bytes_from bytes byte) * 8 in
-      let all = length (bits_from bytes (byte * 8 + bit)) in
-      let m = ap length (part_to_end bytes byte) ∙ length-drop byte bytes in
-      let n = from_length bytes (byte * 8 + bit) in
-      by_test (λ b. b ≡ leb s all) (leb (bit + s) here)
-      (λ e. let l = leb-true (bit + s) here e in sym (le-leb s all (omega arith)))
-      (λ e. let l = leb-false (bit + s) here e in sym (lt-leb s all (omega arith)))
-
-  -- what is_end, size_at and is_room answer
-  pub next_here : {e r b : Bool} {s : ℕ} → byte * 8 + bit ≤ length bytes * 8 → e ≡ ended (bits_from (bytes_from bytes byte) bit) → e ≡ false
-      → s ≡ size (told (bits_from (bytes_from bytes byte) bit)) → r ≡ leb (bit + s) (length (bytes_from bytes byte) * 8) → r ≡ b → Next bytes (byte * 8 + bit) s b
-  next_here {e} {r} {b} {s} h told_end going long room whole =
-      let n = size_here {s = s} long in
-      record { more = end_here told_end going; long = n; room = rw n at (sym (room ∙ room_same s h) ∙ whole) }
+pub whole_room : {bits : List Bool} {s : ℕ} → Whole bits s → leb (size (told bits)) (length bits) ≡ true
+whole_room {bits} {s} next = rw (← next.long) (le-leb s (length bits) next.room)
 
 -- going on from boundary to boundary
-pub place_next : (byte bit s : ℕ) → (byte + (bit + s) / 8) * 8 + (bit + s) % 8 ≡ byte * 8 + bit + s
-place_next byte bit s = omega arith
-
-next_in : (bytes : List ℕ) (p s : ℕ) → p ≤ length bytes * 8 → Next bytes p s true → p + s ≤ length bytes * 8
-next_in bytes p s h next =
-    let l = leb-true (size (told (bits_from bytes p))) (length (bits_from bytes p)) next.room in
+pub next_in : (bytes : List ℕ) {p s : ℕ} → p ≤ length bytes * 8 → Whole (bits_from bytes p) s → p + s ≤ length bytes * 8
+next_in bytes {p} {s} h next =
     let n = from_length bytes p in
-    let k = next.long in
+    let k = next.room in
     omega arith
 
-list_next : (bytes : List ℕ) (p s : ℕ) → Next bytes p s true → is_list (calls_of (bits_from bytes p)) ≡ is_list (calls_of (bits_from bytes (p + s)))
+list_next : (bytes : List ℕ) (p s : ℕ) → Whole (bits_from bytes p) s → is_list (calls_of (bits_from bytes p)) ≡ is_list (calls_of (bits_from bytes (p + s)))
 list_next bytes p s next =
-    list_more (bits_from bytes p) next.more next.room
+    list_more (bits_from bytes p) next.more (whole_room next)
     ∙ ap (λ (bits : List Bool). is_list (calls_of bits)) (rw (← next.long) (from_more bytes p s))
 
-pub boundary_front : (bytes : List ℕ) → Boundary bytes 0 0
+pub boundary_front : (bytes : List ℕ) → Boundary bytes (record { byte = 0; bit = 0 })
 unfolding unpack
 boundary_front bytes = record { low = omega arith; inside = omega arith; list = ap (λ (bits : List Bool). is_list (calls_of bits)) (from_front bytes) }
 
-module _ {bytes : List ℕ} {byte bit : ℕ} (at : Boundary bytes byte bit) where
-  pub check_end : ended (bits_from bytes (byte * 8 + bit)) ≡ true → ◌≡◌ {A = ℕ} 0 (check_number bytes)
-  check_end e = sym (check_done bytes (sym at.list ∙ list_end (bits_from bytes (byte * 8 + bit)) e))
+module _ {bytes : List ℕ} {place : Place} (at : Boundary bytes place) where
+  abbrev here : List Bool
+  here = bits_from bytes (bits_to place)
 
-  module _ {s : ℕ} where
-    pub check_short : Next bytes (byte * 8 + bit) s false → ◌≡◌ {A = ℕ} 20 (check_number bytes)
-    check_short next = sym (check_cut bytes (sym at.list ∙ list_cut (bits_from bytes (byte * 8 + bit)) next.more next.room))
+  pub check_end : Comes here (Ok None) → ◌≡◌ {A = ℕ} 0 (check_number bytes)
+  check_end e = sym (check_done bytes (sym at.list ∙ list_end here e))
 
-    module _ (next : Next bytes (byte * 8 + bit) s true) where
-      pub boundary_next : Boundary bytes (byte + (bit + s) / 8) ((bit + s) % 8)
-      boundary_next = record {
-        low = omega arith;
-        inside = rw (place_next byte bit s) (next_in bytes (byte * 8 + bit) s at.inside next);
-        list = rw (place_next byte bit s) (sym (list_next bytes (byte * 8 + bit) s next) ∙ at.list);
-      }
+  pub check_short : {r : Refusal} → Comes here (Err r) → refusals.number r ≡ check_number bytes
+  check_short h =
+      let cut = lt-leb (size (told here)) (length here) h.2 in
+      ap refusals.number h.0 ∙ sym (check_cut bytes (sym at.list ∙ list_cut here h.1 cut))
 
-      pub boundary_less : 2 ≤ s → length bytes * 8 - ((byte + (bit + s) / 8) * 8 + (bit + s) % 8) < length bytes * 8 - (byte * 8 + bit)
-      boundary_less h = rw (place_next byte bit s) (let l = next_in bytes (byte * 8 + bit) s at.inside next in omega arith)
+  module _ {s : ℕ} (behind : Place) (next : Whole here s) (there : bits_to behind ≡ bits_to place + s) where
+    pub boundary_next : behind.bit ≤ 7 → Boundary bytes behind
+    boundary_next low = record {
+      low = low;
+      inside = rw there (next_in bytes at.inside next);
+      list = rw there (sym (list_next bytes (bits_to place) s next) ∙ at.list);
+    }
+
+    pub boundary_less : length bytes * 8 - bits_to behind < length bytes * 8 - bits_to place
+    boundary_less =
+        let l = next_in bytes at.inside next in
+        let h = next.least in
+        rw there (omega arith)
 
 -- what is at a place
 module _ (bytes : List ℕ) (byte bit : ℕ) where
-  -- what is_room answers for no bits
-  pub place_in : {r : Bool} → byte ≤ length bytes → r ≡ leb (bit + 0) ((length bytes - byte) * 8) → not r ≡ false → byte * 8 + bit ≤ length bytes * 8
-  place_in {r} h e f = let l = leb-true (bit + 0) ((length bytes - byte) * 8) (sym e ∙ not-false r f) in omega arith
-
-  pub place_beyond : {r : Bool} → byte ≤ length bytes → r ≡ leb (bit + 0) ((length bytes - byte) * 8) → not r ≡ true → length bytes * 8 < byte * 8 + bit
-  place_beyond {r} h e f = let l = leb-false (bit + 0) ((length bytes - byte) * 8) (sym e ∙ not-true r f) in omega arith
-
-  pub record_high : 7 < bit → no_call 20 false ≡ record_at bytes byte bit
+  record_high : 7 < bit → no_call 20 false ≡ record_at bytes byte bit
   unfolding record_at record_of
   record_high h = rw (lt-ltb 7 bit h)
 
-  pub record_beyond : length bytes * 8 < byte * 8 + bit → no_call 20 false ≡ record_at bytes byte bit
+  record_beyond : length bytes * 8 < byte * 8 + bit → no_call 20 false ≡ record_at bytes byte bit
   unfolding record_at record_of found_at
   record_beyond h =
       rw (lt-ltb (length bytes * 8) (byte * 8 + bit) h)
       (by_test (λ b. no_call 20 false ≡ record_of (cond b nothing nothing)) (ltb 7 bit) (λ e. refl) (λ e. refl))
 
-  module _ (low : bit ≤ 7) (h : byte * 8 + bit ≤ length bytes * 8) where
-    record_in : record_at bytes byte bit ≡ record_of (found_in (bits_from bytes (byte * 8 + bit)) (byte * 8 + bit))
-    unfolding record_at found_at
-    record_in = rw (le-ltb 7 bit low, le-ltb (length bytes * 8) (byte * 8 + bit) h)
+  -- beyond the list's last bit, or no place
+  pub record_out : ((bit ≤ 7) × (byte * 8 + bit + 0 ≤ length bytes * 8) → ⊥) → no_call 20 false ≡ record_at bytes byte bit
+  record_out h = ⊎_elim record_high (λ (low : bit ≤ 7). ⊎_elim record_beyond (λ (inside : byte * 8 + bit ≤ length bytes * 8). absurd (h (low, omega arith))) (cases_lt (length bytes * 8) (byte * 8 + bit))) (cases_lt 7 bit)
 
-    pub record_end : ended (bits_from bytes (byte * 8 + bit)) ≡ true → no_call 0 true ≡ record_at bytes byte bit
+  module _ (h : (bit ≤ 7) × (byte * 8 + bit + 0 ≤ length bytes * 8)) where
+    abbrev here_in : List Bool
+    here_in = bits_from bytes (byte * 8 + bit)
+
+    record_in : record_at bytes byte bit ≡ record_of (found_in here_in (byte * 8 + bit))
+    unfolding record_at found_at
+    record_in = let l = h.1 in rw (le-ltb 7 bit h.0, le-ltb (length bytes * 8) (byte * 8 + bit) (omega arith))
+
+    pub record_end : Comes here_in (Ok None) → no_call 0 true ≡ record_at bytes byte bit
     unfolding record_of found_in
     record_end e = sym (record_in ∙ rw e)
 
-    module _ {s : ℕ} where
-      pub record_short : Next bytes (byte * 8 + bit) s false → no_call 20 false ≡ record_at bytes byte bit
-      unfolding record_of found_in
-      record_short next = sym (record_in ∙ rw (next.more, next.room))
+    pub record_short : {r : Refusal} → Comes here_in (Err r) → no_call (refusals.number r) false ≡ record_at bytes byte bit
+    unfolding record_of found_in
+    record_short g = let cut = lt-leb (size (told here_in)) (length here_in) g.2 in sym (record_in ∙ rw (g.1, cut, g.0))
 
-      pub record_call : (c : Call) → Next bytes (byte * 8 + bit) s true → c ≡ call_of (told (bits_from bytes (byte * 8 + bit)))
-          → record { call = c; byte = byte + (bit + s) / 8; bit = (bit + s) % 8; number = 0; end = false } ≡ record_at bytes byte bit
-      unfolding record_of found_in
-      record_call c next g =
-          let p : (byte * 8 + bit + s) / 8 ≡ byte + (bit + s) / 8 = omega arith in
-          let q : (byte * 8 + bit + s) % 8 ≡ (bit + s) % 8 = omega arith in
-          sym (record_in ∙ rw (next.more, next.room, ← next.long, ← g, p, q))
+    pub record_call : {s : ℕ} (behind : Place) (c : Call) → Whole here_in s → bits_to behind ≡ byte * 8 + bit + s → behind.bit ≤ 7 → c ≡ call_of (told here_in)
+        → record { call = c; byte = behind.byte; bit = behind.bit; number = 0; end = false } ≡ record_at bytes byte bit
+    unfolding record_of found_in
+    record_call {s} behind c next there low f =
+        let p : (byte * 8 + bit + s) / 8 ≡ behind.byte = omega arith in
+        let q : (byte * 8 + bit + s) % 8 ≡ behind.bit = omega arith in
+        sym (record_in ∙ rw (next.more, whole_room next, ← next.long, ← f, p, q))
 
 -- going from record to record
 module _ (bytes : List ℕ) (p : ℕ) (h : p ≤ length bytes * 8) where

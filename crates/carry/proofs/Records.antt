@@ -6,15 +6,14 @@
 --    own_look, own_access, own_reset                the number of a call, by its kind
 --    look_fits, write_fits, read_fits               the count of a call that isn't declined
 --    bits_look, bits_write, bits_read, bits_reset   how many bits its record has
---    header c kind                                  what is laid of an access before its bytes
 --    both_laid                                      bits laid behind bits that were laid
 --    access_laid                                    the kind, the address and the count of an access
 --    look_laid, write_laid, read_laid, reset_laid   the whole record
 -- Assumes nothing.
 use Prim.Native.Nat.{ℕ, ◌+◌, ◌-◌, ◌*◌, ◌%◌, ◌≤◌}
-use native.Mathlib.Decide.{ℕ_discrete}
 use native.Mathlib.Omega.{arith}
 use mathlib.Core.Path.{◌≡◌, refl, sym, ap, ◌∙◌}
+use mathlib.Core.Logic.{◌⊎◌, inl, inr}
 use mathlib.Core.Bool.{Bool, true, false, not}
 use mathlib.Core.List.{List, [], ◌∷◌, ◌++◌, append_assoc, map}
 use borrow.Author.Tests.{ltb-false, ne_eqb, eqb-false}
@@ -29,8 +28,10 @@ use Rattle.bits.specs.Bits.{bits_of, spelled, laid}
 use Rattle.bits.proofs.Laws.{bits_length, bits_low_only}
 use Rattle.bits.proofs.Laid.{laid_next}
 use Rattle.carry.specs.declared.call.Call.{Call}
+use Rattle.carry.specs.declared.call.Kind.{Kind}
+use Rattle.carry.specs.declared.call.Kind.TheVariants.{Write, Read}
 use Rattle.carry.specs.Carried.{Carried, look, write, read, reset, packed, size}
-use Rattle.carry.specs.Calls.{firsts, low, carried}
+use Rattle.carry.specs.Calls.{code, firsts, low, carried, header}
 use Rattle.carry.specs.Writer.{count_lines, own_lines}
 use Rattle.carry.proofs.Laws.{size_look, size_write, size_read}
 use Rattle.carry.proofs.Lists.{firsts_length, firsts_take, is_look, is_write, is_read, is_reset, spelled_low}
@@ -85,16 +86,13 @@ module _ (c : Call) where
   unfolding own_lines
   own_read k = rw (is_read c k)
 
+  pub own_access : {k : Kind} → code k ≡ c.kind % 4 → (k ≡ Write) ⊎ (k ≡ Read) → number_of (own_lines (carried c)) ≡ number_of (count_lines count)
+  own_access e (inl w) = own_write (sym e ∙ ap code w)
+  own_access e (inr r) = own_read (sym e ∙ ap code r)
+
   pub own_reset : c.kind % 4 ≡ 3 → number_of (own_lines (carried c)) ≡ done
   unfolding own_lines
   own_reset k = rw (is_reset c k) lines_end
-
-  pub own_access : (c.kind % 4 ≡ 0 → ⊥) → (c.kind % 4 ≡ 3 → ⊥) → number_of (own_lines (carried c)) ≡ number_of (count_lines count)
-  own_access l r = go (ℕ_discrete (c.kind % 4) 1)
-    where
-      go : Dec (c.kind % 4 ≡ 1) → number_of (own_lines (carried c)) ≡ number_of (count_lines count)
-      go (yes k) = own_write k
-      go (no k) = own_read (omega arith)
 
   module _ (d : number_of (own_lines (carried c)) ≡ done) where
     pub look_fits : c.kind % 4 ≡ 0 → count ≡ 8
@@ -141,9 +139,6 @@ address_low : (a : ℕ) → bits_of 8 (low a) ≡ bits_of 8 a
 unfolding low
 address_low a = bits_low_only 8 a
 
-abbrev pub header : Call → ℕ → List Bool
-header c kind = bits_of 2 kind ++ (bits_of 8 c.first ++ bits_of 5 (c.count - 1))
-
 header_length : (c : Call) (kind : ℕ) → length (header c kind) ≡ 15
 header_length c kind =
     let a = bits_of 8 c.first in
@@ -186,17 +181,17 @@ module _ (out : List ℕ) (p : ℕ) (h : p ≤ length out * 8) where
   both_laid : (y z : List ℕ) (f g : List Bool) (q : ℕ) → q ≡ p + length f → y ≡ laid out p f → z ≡ laid y q g → z ≡ laid out p (f ++ g)
   both_laid y z f g q e ey ez = ez ∙ rw (ey, e) (laid_next out p f g h)
 
-  pub access_laid : (kind first n : ℕ) (x y z : List ℕ)
-      → x ≡ laid out p (bits_of 2 kind) → y ≡ laid x (p + 2) (bits_of 8 first) → z ≡ laid y (p + 10) (bits_of 5 n)
-      → z ≡ laid out p (bits_of 2 kind ++ (bits_of 8 first ++ bits_of 5 n))
-  access_laid kind first n x y z ex ey ez =
+  pub access_laid : (c : Call) (kind : ℕ) (x y z : List ℕ)
+      → x ≡ laid out p (bits_of 2 kind) → y ≡ laid x (p + 2) (bits_of 8 c.first) → z ≡ laid y (p + 10) (bits_of 5 (c.count - 1)) → z ≡ laid out p (header c kind)
+  access_laid c kind x y z ex ey ez =
       let a = bits_of 2 kind in
-      let b = bits_of 8 first in
+      let b = bits_of 8 c.first in
+      let n = bits_of 5 (c.count - 1) in
       let la = bits_length 2 kind in
-      let lb = bits_length 8 first in
+      let lb = bits_length 8 c.first in
       let two = both_laid x y a b (p + 2) (rw la) ex ey in
       let ten : p + 10 ≡ p + length (a ++ b) = rw (length-append a b, la, lb) in
-      both_laid y z (a ++ b) (bits_of 5 n) (p + 10) ten two ez ∙ ap (laid out p) (append_assoc a b (bits_of 5 n))
+      both_laid y z (a ++ b) n (p + 10) ten two ez ∙ ap (laid out p) (append_assoc a b n)
 
   module _ (c : Call) (d : number_of (own_lines (carried c)) ≡ done) (long : length c.values ≡ 32) where
     pub look_laid : c.kind % 4 ≡ 0 → (y z : List ℕ) → y ≡ laid out p (bits_of 2 0) → z ≡ laid y (p + 2) (spelled 13 (take 8 c.values))

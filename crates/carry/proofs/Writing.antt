@@ -7,34 +7,42 @@
 --    records_none, records_next     the records of no calls, and of one more
 --    place_next, room_next          the place behind one record more, and the room for it
 --    none_laid, records_laid        the records of no calls are laid, and one record more
+--    rest_length                    how many bytes there are from one on
 --    back_laid                      bits laid into the part of a buffer from a byte on, and the part given back
 --    packing_length, place_bytes    how many bytes a packed list has; how many a place takes
 --    pack_declined, pack_no_room, pack_done               what `pack` gives
---    test_no, test_yes                                    a test of room
---    add_declined, add_no_place, add_no_room, add_done    what `add` gives
+--    Adds, add_declined, add_no_room, add_done            what `add` gives
+--    packed_one, added_one          what is handed back tells how it went
 --    added, added_place             calls that are added one by one are the packed list
 -- Assumes nothing.
 use Prim.Native.Nat.{ℕ, ◌+◌, ◌-◌, ◌*◌, ◌/◌, ◌%◌, ◌≤◌, ◌<◌}
 use native.Mathlib.Decide.{ℕ_discrete}
 use native.Mathlib.Omega.{arith}
 use mathlib.Core.Path.{◌≡◌, refl, sym, ap, ◌∙◌}
-use mathlib.Core.Bool.{Bool, true, false, not, ◌||◌}
+use mathlib.Core.Bool.{Bool, true, false, ◌||◌}
 use mathlib.Core.List.{List, [], ◌∷◌, ◌++◌, append_assoc, append-nil}
-use borrow.Author.Tests.{lt-ltb, le-ltb, ltb-false, leb-true, leb-false, ne_eqb, not-true, not-false}
+use borrow.Author.Tests.{lt-ltb, le-ltb, ltb-false, ne_eqb}
 use borrow.Rule.Slice.PartMut.{put_mid, mid_of}
-use lib.Dec.{leb, ltb}
+use lib.Dec.{ltb}
 use lib.ListN.{length, take, drop, length-append, length-drop, drop_of_length-le}
 use Rattle.words.specs.Words.{all}
 use Rattle.words.proofs.Laws.{true_false}
 use Rattle.numbers.specs.Numbers.{◌gives◌, number_of, done, no_room}
-use Rattle.numbers.proofs.Laws.{declining, declining_both, line_yes, line_no, lines_end, first_decides, rest_decides, line_false}
+use Rattle.numbers.proofs.Laws.{refused, number_one, declining, declining_both, line_yes, line_no, lines_end, first_decides, rest_decides, line_false}
+use Rattle.std.proofs.Common.{⊎_elim}
+use Rattle.std.proofs.lemmas.Bool.{cases_lt}
+use Rattle.std.specs.Prelude.{Result, Ok, Err}
+use Rattle.numbers.specs.Refusals.{number}
+use Rattle.numbers.specs.declared.Refusal.{Refusal}
+use Rattle.numbers.specs.declared.Refusal.TheVariants.{NoRoom}
 use Rattle.bits.specs.Bits.{below, bytes_for, laid}
 use Rattle.bits.proofs.Laid.{bytes_length, laid_next, laid_length, laid_none, laid_part, laid_front}
 use Rattle.carry.specs.declared.call.Call.{Call}
-use Rattle.carry.specs.declared.writer.Added.{Added}
+use Rattle.carry.specs.declared.call.Place.{Place}
+use Rattle.carry.specs.Places.{bits_to}
 use Rattle.carry.specs.Carried.{Carried, packed, size, records, packing}
 use Rattle.carry.specs.Calls.{carried, call_at, listed}
-use Rattle.carry.specs.Writer.{own_lines, list_lines, writer_lines, pack_number, pack_call, pack_buffer, add_lines, add_number, add_call, add_buffer}
+use Rattle.carry.specs.Writer.{own_lines, list_lines, writer_lines, Packed, pack_number, as_packed, Added, pack_call, pack_buffer, add_lines, add_number, as_added, add_call, add_buffer}
 use Rattle.carry.proofs.Lists.{lent_rest, begun, begun_none, begun_next, begun_rest}
 use Rattle.carry.proofs.Records.{own_declines}
 
@@ -102,9 +110,6 @@ records_last : (cs : List Carried) (c : Carried) → records (cs ++ (c ∷ [])) 
 unfolding records
 records_last cs c = records_append cs (c ∷ []) ∙ ap (λ (l : List Bool). records cs ++ l) (append-nil (packed c))
 
-place_more : (byte bit r n m : ℕ) → byte * 8 + bit ≡ n → n + r ≡ m → (byte + (bit + r) / 8) * 8 + (bit + r) % 8 ≡ m
-place_more byte bit r n m e f = omega arith
-
 module _ (ws : List ℕ) where
   pub records_none : records (begun ws 0) ≡ []
   unfolding records
@@ -118,13 +123,11 @@ module _ (ws : List ℕ) where
     unfolding size
     length_next = sym (ap length records_next ∙ length-append (records (begun ws i)) (packed (carried c)))
 
-    module _ (byte bit : ℕ) (e : byte * 8 + bit ≡ length (records (begun ws i))) where
-      pub place_next : (r : ℕ) → r ≡ size (carried c) → (byte + (bit + r) / 8) * 8 + (bit + r) % 8 ≡ length (records (begun ws (i + 1)))
-      place_next r f =
-          place_more byte bit r (length (records (begun ws i))) (length (records (begun ws (i + 1)))) e
-          (ap (λ (n : ℕ). length (records (begun ws i)) + n) f ∙ length_next)
+    module _ {p : ℕ} (e : p ≡ length (records (begun ws i))) where
+      pub place_next : {q r : ℕ} → q ≡ p + r → r ≡ size (carried c) → q ≡ length (records (begun ws (i + 1)))
+      place_next h f = omega (arith, length_next)
 
-      pub room_next : (room : ℕ) → i < length ws / 35 → bytes_for (length (records (listed ws))) ≤ room → byte * 8 + bit + size (carried c) ≤ room * 8
+      pub room_next : (room : ℕ) → i < length ws / 35 → bytes_for (length (records (listed ws))) ≤ room → p + size (carried c) ≤ room * 8
       unfolding bytes_for
       room_next room h l =
           let r = begun_rest ws (i + 1) (omega arith) in
@@ -132,6 +135,10 @@ module _ (ws : List ℕ) where
           omega (arith, length_next, ap length whole ∙ length-append (records (begun ws (i + 1))) (records r.0))
 
 -- ---- records laid into a buffer
+
+-- how many bytes there are from one on
+pub rest_length : (out : List ℕ) (byte : ℕ) → length (take (length out - byte) (drop byte out)) ≡ length out - byte
+rest_length out byte = ap length (lent_rest (length out) byte out refl) ∙ length-drop byte out
 
 -- bits are laid into the part of a buffer from a byte on, and the part is given back
 module _ (out : List ℕ) (room byte : ℕ) (whole : room ≡ length out) where
@@ -162,9 +169,9 @@ pub packing_length : (cs : List Carried) → length (packing cs) ≡ bytes_for (
 unfolding packing
 packing_length cs = bytes_length (records cs)
 
-pub place_bytes : (byte bit n : ℕ) → byte * 8 + bit ≡ n → byte + (bit + 7) / 8 ≡ bytes_for n
+pub place_bytes : (place : Place) {bit n : ℕ} → bit ≡ place.bit → bits_to place ≡ n → place.byte + (bit + 7) / 8 ≡ bytes_for n
 unfolding bytes_for
-place_bytes byte bit n e = omega arith
+place_bytes place f e = omega arith
 
 module _ (ws out : List ℕ) where
   not_packed : (n : ℕ) → pack_number ws (length out) ≡ n → (n ≡ done → ⊥)
@@ -172,12 +179,11 @@ module _ (ws out : List ℕ) where
   unfolding pack_call pack_buffer
   not_packed n e h = rw (e, ne_eqb n done h) (refl, refl)
 
-  pub pack_declined : (n : ℕ) → n ≡ number_of (list_lines (listed ws)) → (n ≡ done → ⊥)
-      → (record { length = 0; number = n } ≡ pack_call ws (length out)) × (out ≡ pack_buffer ws out)
+  pub pack_declined : (r : Refusal) → number r ≡ number_of (list_lines (listed ws)) → (as_packed (Err r) ≡ pack_call ws (length out)) × (out ≡ pack_buffer ws out)
   unfolding pack_number writer_lines
-  pack_declined n e h =
+  pack_declined r e =
       let line = ltb (length out) (length (packing (listed ws))) gives no_room in
-      not_packed n (first_decides (list_lines (listed ws)) (line ∷ []) (λ d. h (e ∙ d)) ∙ sym e) h
+      not_packed (number r) (first_decides (list_lines (listed ws)) (line ∷ []) (λ d. refused r (e ∙ d)) ∙ sym e) (refused r)
 
   module _ (l : ℕ) (d : number_of (list_lines (listed ws)) ≡ done) (e : l ≡ bytes_for (length (records (listed ws)))) where
     room_decides : pack_number ws (length out) ≡ number_of (ltb (length out) l gives no_room ∷ [])
@@ -186,11 +192,11 @@ module _ (ws out : List ℕ) where
         rest_decides (list_lines (listed ws)) (ltb (length out) (length (packing (listed ws))) gives no_room ∷ []) (list_declines (listed ws)) d
         ∙ ap (λ (n : ℕ). number_of (ltb (length out) n gives no_room ∷ [])) (packing_length (listed ws) ∙ sym e)
 
-    pub pack_no_room : length out < l → (record { length = 0; number = no_room } ≡ pack_call ws (length out)) × (out ≡ pack_buffer ws out)
+    pub pack_no_room : length out < l → (as_packed (Err NoRoom) ≡ pack_call ws (length out)) × (out ≡ pack_buffer ws out)
     pack_no_room h = not_packed no_room (room_decides ∙ line_yes (ltb (length out) l) no_room [] (lt-ltb (length out) l h)) (λ z. omega arith)
 
     pub pack_done : (y : List ℕ) → l ≤ length out → y ≡ laid out 0 (records (listed ws))
-        → (record { length = l; number = done } ≡ pack_call ws (length out)) × (y ≡ pack_buffer ws out)
+        → (as_packed (Ok l) ≡ pack_call ws (length out)) × (y ≡ pack_buffer ws out)
     unfolding pack_call pack_buffer packing
     pack_done y h f =
         let z = room_decides ∙ line_no (ltb (length out) l) no_room [] (le-ltb (length out) l h) ∙ lines_end in
@@ -198,58 +204,57 @@ module _ (ws out : List ℕ) where
 
 -- ---- what one call more gives
 
--- a test of room that is false, and one that is true
-pub test_no : (t : Bool) (a b : ℕ) → t ≡ leb a b → not t ≡ true → b < a
-test_no t a b e f = leb-false a b (sym e ∙ not-true t f)
-
-pub test_yes : (t : Bool) (a b : ℕ) → t ≡ leb a b → not t ≡ false → a ≤ b
-test_yes t a b e f = leb-true a b (sym e ∙ not-false t f)
-
 full_line : (b : Bool) → declining (b gives no_room ∷ []) ≡ true
 unfolding declining
 full_line b = refl
 
-module _ (c : Call) (out : List ℕ) (byte bit : ℕ) where
+module _ (c : Call) (out : List ℕ) (place : Place) where
+  abbrev byte : ℕ
+  byte = place.byte
+
+  abbrev bit : ℕ
+  bit = place.bit
+
+  -- what `add` has to give, and to leave
+  abbrev pub Adds : Result Place Refusal → List ℕ → Type 0
+  Adds x y = (as_added place x ≡ add_call c (length out) byte bit) × (y ≡ add_buffer c out byte bit)
+
   abbrev full : Bool
   full = ltb 7 bit || ltb (length out * 8) (byte * 8 + bit + size (carried c))
 
-  not_added : (n : ℕ) (a : Added) → add_number c (length out) byte bit ≡ n → (n ≡ done → ⊥) → a ≡ record { byte = byte; bit = bit; number = n }
-      → (a ≡ add_call c (length out) byte bit) × (out ≡ add_buffer c out byte bit)
+  not_added : (r : Refusal) → add_number c (length out) byte bit ≡ number r → Adds (Err r) out
   unfolding add_call add_buffer
-  not_added n a e h f = rw (e, ne_eqb n done h) (f, refl)
+  not_added r e = rw (e, ne_eqb (number r) done (refused r)) (refl, refl)
 
-  pub add_declined : (n : ℕ) (a : Added) → n ≡ number_of (own_lines (carried c)) → (n ≡ done → ⊥) → a ≡ record { byte = byte; bit = bit; number = n }
-      → (a ≡ add_call c (length out) byte bit) × (out ≡ add_buffer c out byte bit)
+  pub add_declined : (r : Refusal) → number r ≡ number_of (own_lines (carried c)) → Adds (Err r) out
   unfolding add_number add_lines
-  add_declined n a e h f = not_added n a (first_decides (own_lines (carried c)) (full gives no_room ∷ []) (λ d. h (e ∙ d)) ∙ sym e) h f
+  add_declined r e = not_added r (first_decides (own_lines (carried c)) (full gives no_room ∷ []) (λ d. refused r (e ∙ d)) ∙ sym e)
 
   module _ (d : number_of (own_lines (carried c)) ≡ done) where
     full_decides : add_number c (length out) byte bit ≡ number_of (full gives no_room ∷ [])
     unfolding add_number add_lines
     full_decides = rest_decides (own_lines (carried c)) (full gives no_room ∷ []) (own_declines (carried c)) d
 
-    is_full : (a : Added) → full ≡ true → a ≡ record { byte = byte; bit = bit; number = no_room }
-        → (a ≡ add_call c (length out) byte bit) × (out ≡ add_buffer c out byte bit)
-    is_full a h f = not_added no_room a (full_decides ∙ line_yes full no_room [] h) (λ z. omega arith) f
+    -- no room, or no place
+    pub add_no_room : ((bit ≤ 7) × (bits_to place + size (carried c) ≤ length out * 8) → ⊥) → Adds (Err NoRoom) out
+    add_no_room h = not_added NoRoom (full_decides ∙ line_yes full no_room [] (go (ltb 7 bit) refl))
+      where
+        go : (b : Bool) → ltb 7 bit ≡ b → (b || ltb (length out * 8) (byte * 8 + bit + size (carried c))) ≡ true
+        go true e = refl
+        go false e =
+            let end = byte * 8 + bit + size (carried c) in
+            lt-ltb (length out * 8) end
+            (⊎_elim (λ (full : length out * 8 < end). full) (λ (room : end ≤ length out * 8). absurd (h (ltb-false 7 bit e, room))) (cases_lt (length out * 8) end))
 
-    pub add_no_place : (a : Added) → 7 < bit → a ≡ record { byte = byte; bit = bit; number = no_room }
-        → (a ≡ add_call c (length out) byte bit) × (out ≡ add_buffer c out byte bit)
-    add_no_place a h f = is_full a (rw (lt-ltb 7 bit h)) f
-
-    pub add_no_room : (a : Added) → bit ≤ 7 → length out * 8 < byte * 8 + bit + size (carried c) → a ≡ record { byte = byte; bit = bit; number = no_room }
-        → (a ≡ add_call c (length out) byte bit) × (out ≡ add_buffer c out byte bit)
-    add_no_room a h l f = is_full a (rw (le-ltb 7 bit h, lt-ltb (length out * 8) (byte * 8 + bit + size (carried c)) l)) f
-
-    pub add_done : (r : ℕ) (y : List ℕ) → bit ≤ 7 → r ≡ size (carried c) → byte * 8 + bit + size (carried c) ≤ length out * 8
-        → y ≡ laid out (byte * 8 + bit) (packed (carried c))
-        → (record { byte = byte + (bit + r) / 8; bit = (bit + r) % 8; number = done } ≡ add_call c (length out) byte bit) × (y ≡ add_buffer c out byte bit)
+    pub add_done : (behind : Place) {r : ℕ} (y : List ℕ) → (bit ≤ 7) × (bits_to place + r ≤ length out * 8) → r ≡ size (carried c)
+        → (bits_to behind ≡ bits_to place + r) × (behind.bit ≤ 7) → y ≡ laid out (byte * 8 + bit) (packed (carried c)) → Adds (Ok behind) y
     unfolding add_call add_buffer
-    add_done r y h e l f =
-        let room : full ≡ false = rw (le-ltb 7 bit h, le-ltb (length out * 8) (byte * 8 + bit + size (carried c)) l) in
+    add_done behind {r} y h e l f =
+        let room : full ≡ false = rw (le-ltb 7 bit h.0, le-ltb (length out * 8) (byte * 8 + bit + size (carried c)) (rw (← e) h.1)) in
         let z = full_decides ∙ line_no full no_room [] room ∙ lines_end in
         let n = byte * 8 + bit + size (carried c) in
-        let b : byte + (bit + r) / 8 ≡ n / 8 = omega arith in
-        let k : (bit + r) % 8 ≡ n % 8 = omega arith in
+        let b : behind.byte ≡ n / 8 = omega arith in
+        let k : behind.bit ≡ n % 8 = omega arith in
         rw z (rw (b, k) refl, f)
 
   -- a call that is added has room
@@ -269,7 +274,7 @@ module _ (call : Call) (cs : List Carried) (out : List ℕ) (byte bit : ℕ) (at
   room_left : byte * 8 + bit + size (carried call) ≤ length out * 8
   room_left =
       let end = byte * 8 + bit + size (carried call) in
-      ltb-false (length out * 8) end (or_right (ltb 7 bit) (ltb (length out * 8) end) (is_added call out byte bit d))
+      ltb-false (length out * 8) end (or_right (ltb 7 bit) (ltb (length out * 8) end) (is_added call out (record { byte = byte; bit = bit }) d))
 
   pub added : add_buffer call (laid out 0 (records cs)) byte bit ≡ laid out 0 (records (cs ++ (carried call ∷ [])))
   unfolding add_buffer
@@ -283,3 +288,17 @@ module _ (call : Call) (cs : List Carried) (out : List ℕ) (byte bit : ℕ) (at
       let n = byte * 8 + bit + length (packed (carried call)) in
       let m : n / 8 * 8 + n % 8 ≡ n = omega arith in
       rw (d, records_last cs (carried call), length-append (records cs) (packed (carried call)), ← at) m
+
+-- ---- what is handed back tells how it went
+
+pub packed_one : (x y : Result ℕ Refusal) → as_packed x ≡ as_packed y → x ≡ y
+packed_one (Ok n) (Ok m) e = ap Ok (ap (λ (p : Packed). p.length) e)
+packed_one (Ok n) (Err r) e = absurd (refused r (sym (ap (λ (p : Packed). p.number) e)))
+packed_one (Err r) (Ok m) e = absurd (refused r (ap (λ (p : Packed). p.number) e))
+packed_one (Err r) (Err s) e = ap Err (number_one r s (ap (λ (p : Packed). p.number) e))
+
+pub added_one : (p : Place) (x y : Result Place Refusal) → as_added p x ≡ as_added p y → x ≡ y
+added_one p (Ok a) (Ok b) e = ap (λ (q : Added). Ok (record { byte = q.byte; bit = q.bit })) e
+added_one p (Ok a) (Err r) e = absurd (refused r (sym (ap (λ (q : Added). q.number) e)))
+added_one p (Err r) (Ok b) e = absurd (refused r (ap (λ (q : Added). q.number) e))
+added_one p (Err r) (Err s) e = ap Err (number_one r s (ap (λ (q : Added). q.number) e))

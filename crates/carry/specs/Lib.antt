@@ -1,7 +1,9 @@
 pub mod Carried
 pub mod Calls
+pub mod Places
 pub mod Writer
 pub mod Reader
+pub mod Next
 pub mod Player
 pub mod Statements
 pub mod Wrong

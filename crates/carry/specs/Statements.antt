@@ -11,11 +11,10 @@ use Rattle.numbers.specs.Numbers.{Given, done, cut_short}
 use Rattle.bits.specs.Bits.{below}
 use Rattle.state.specs.Module.{fresh}
 use Rattle.calls.specs.declared.Done.{Done}
-use Rattle.carry.specs.declared.writer.Packed.{Packed}
 use Rattle.carry.specs.declared.reader.Record.{Record}
 use Rattle.carry.specs.Carried.{Carried, look, write, read, reset, fits, packing}
 use Rattle.carry.specs.Calls.{listed}
-use Rattle.carry.specs.Writer.{writer_lines, pack_call, pack_buffer}
+use Rattle.carry.specs.Writer.{writer_lines, Packed, pack_call, pack_buffer}
 use Rattle.carry.specs.Reader.{call, end, check_number, record_of, record_at}
 use Rattle.carry.specs.Player.{played_from, play_call}
 

@@ -4,19 +4,24 @@
 --    own_lines c              1 to 4, for a call of the list
 --    list_lines cs            those of all calls, in the list's order
 --    writer_lines cs room     all lines of the writer, whose buffer has room for so many bytes
+--    Packed                   what the writer hands back: a number, and the list's length
+--    as_packed x              the same, by how it went
 --    pack_call ws room        the writer's number and length, for a list of numbers
 --    pack_buffer ws out       the buffer after it
 --    add_lines c room byte bit    all lines of one call more, behind so many bytes and bits of a buffer
+--    Added                    what one call more hands back: a number, and a place in bytes and bits more
+--    as_added p x             the same, by how it went at the place p
 --    add_call c room byte bit    its number, and the place behind its record
 --    add_buffer c out byte bit    the buffer after it
-use Rattle.std.specs.Prelude.{ℕ, ◌+◌, ◌*◌, ◌/◌, ◌%◌, ◌||◌, List, [], ◌∷◌, ◌++◌, length, drop, eqb, ltb}
+use Rattle.std.specs.Prelude.{ℕ, ◌+◌, ◌*◌, ◌/◌, ◌%◌, ◌||◌, List, [], ◌∷◌, ◌++◌, length, drop, eqb, ltb, Result, Ok, Err}
 use Rattle.words.specs.Words.{◌if◌, ◌else◌}
 use Rattle.numbers.specs.Numbers.{Line, ◌gives◌, number_of, done, no_bytes, too_many, no_room}
+use Rattle.numbers.specs.Refusals.{number}
+use Rattle.numbers.specs.declared.Refusal.{Refusal}
 use Rattle.judge.specs.Lines.{sample_lines}
 use Rattle.bits.specs.Bits.{laid}
 use Rattle.carry.specs.declared.call.Call.{Call}
-use Rattle.carry.specs.declared.writer.Packed.{Packed}
-use Rattle.carry.specs.declared.writer.Added.{Added}
+use Rattle.carry.specs.declared.call.Place.{Place}
 use Rattle.carry.specs.Carried.{Carried, look, write, read, reset, packed, size, packing}
 use Rattle.carry.specs.Calls.{carried, listed}
 
@@ -42,6 +47,14 @@ writer_lines cs room = list_lines cs ++ (ltb room (length (packing cs)) gives no
 unfoldable pub pack_number : List ℕ → ℕ → ℕ
 pack_number ws room = number_of (writer_lines (listed ws) room)
 
+pub record Packed : Type 0 where
+  pub length : ℕ
+  pub number : ℕ
+
+abbrev pub as_packed : Result ℕ Refusal → Packed
+as_packed (Ok n) = record { length = n; number = done }
+as_packed (Err r) = record { length = 0; number = number r }
+
 -- declined: no length
 unfoldable pub pack_call : List ℕ → ℕ → Packed
 pack_call ws room = record { length = length (packing (listed ws)) if eqb (pack_number ws room) done else 0; number = pack_number ws room }
@@ -59,6 +72,15 @@ add_lines c room byte bit = own_lines c ++ ((ltb 7 bit || ltb (room * 8) (byte *
 
 unfoldable pub add_number : Call → ℕ → ℕ → ℕ → ℕ
 add_number c room byte bit = number_of (add_lines (carried c) room byte bit)
+
+pub record Added : Type 0 where
+  pub byte : ℕ
+  pub bit : ℕ
+  pub number : ℕ
+
+abbrev pub as_added : Place → Result Place Refusal → Added
+as_added p (Ok q) = record { byte = q.byte; bit = q.bit; number = done }
+as_added p (Err r) = record { byte = p.byte; bit = p.bit; number = number r }
 
 -- declined: the place as given
 unfoldable pub add_call : Call → ℕ → ℕ → ℕ → Added

@@ -21,10 +21,9 @@ use Rattle.state.specs.declared.Module.{Module}
 use Rattle.state.specs.Module.{fresh}
 use Rattle.calls.specs.declared.Done.{Done}
 use Rattle.calls.specs.Calls.{reset_call, look_call, write_call, read_call}
-use Rattle.carry.specs.declared.writer.Packed.{Packed}
 use Rattle.carry.specs.Carried.{Carried, look, write, read, reset, packed, size, packing, told, before, unpack}
 use Rattle.carry.specs.Calls.{listed}
-use Rattle.carry.specs.Writer.{list_lines, pack_number, pack_buffer}
+use Rattle.carry.specs.Writer.{list_lines, Packed, pack_number, pack_buffer}
 use Rattle.carry.specs.Reader.{is_list, check_number, record_at}
 use Rattle.carry.specs.Player.{stepped, played_from, play_call}
 use Rattle.carry.specs.Statements.{Carrier, ours}

@@ -6,44 +6,41 @@ ghost use Rattle.carry.specs.Calls.{carried, low};
 ghost use Rattle.carry.specs.Reader.{is_list};
 ghost use Rattle.carry.specs.Player.{stepped, played_as, play_call};
 
-use crate::call::Call;
-use crate::reader::{check, is_end, size_at, told_at};
+use crate::call::{Call, Kind, Place};
+use crate::reader::{Rest, check};
 use calls::Done;
 use state::Module;
 
 // Numbers as bytes.
-fn bytes_of(values: [u16; 32]) -> [u8; 32]
-    ensures { result ≡ map low values }
+fn bytes_of(values: &[u16; 32]) -> [u8; 32]
+    ensures { result ≡ map low values.now }
 {
-    let mut bytes = [0u8; 32];
-    let mut i: usize = 0;
-    while i < 32 {
-        bytes[i] = (values[i] % 256) as u8;
-        i = i + 1;
+    // kept: no heap
+    let mut bytes = [0; 32];
+    for (i, value) in values.iter().enumerate() {
+        bytes[i] = (*value % 256) as u8;
     }
     bytes
 }
 
-// The module after a call that fits, done or declined.
-fn step(m: Module, call: Call) -> Module
+// A call that fits is made, and done or declined.
+fn step(m: &mut Module, call: Call)
     requires { fits (carried call) ≡ true }
-    ensures { result ≡ stepped m (carried call) }
+    ensures { m.new ≡ stepped m.old (carried call) }
 {
-    let kind = call.kind % 4;
     let first = (call.first % 256) as u8;
-    let n = call.count as usize;
-    let values = call.values;
-    match kind {
-        0 => calls::look(m, &values[0..n]).after,
-        1 => {
-            let bytes = bytes_of(values);
-            calls::write(m, first, &bytes[0..n]).after
+    let n = usize::from(call.count);
+    match call.kind() {
+        Kind::Look => {
+            let _ = calls::lent::look(m, &call.values[0..n]);
         }
-        2 => {
-            let mut bytes = [0u8; 32];
-            calls::read(m, first, &mut bytes[0..n]).after
+        Kind::Write => {
+            let _ = calls::lent::write(m, first, &bytes_of(&call.values)[0..n]);
         }
-        _ => calls::reset().after,
+        Kind::Read => {
+            let _ = calls::lent::read(m, first, &mut [0; 32][0..n]);
+        }
+        Kind::Reset => *m = calls::reset().after,
     }
 }
 
@@ -52,19 +49,16 @@ fn played(bytes: &[u8]) -> Module
     requires { is_list (unpack bytes.now) ≡ true }
     ensures { result ≡ (played_as (unpack bytes.now)).after }
 {
-    let n = bytes.len();
     let mut m = state::fresh();
-    let mut byte: usize = 0;
-    let mut bit: usize = 0;
+    let mut place = Place::FRONT;
+    // kept: it goes from record to record, and counts no index.
     loop {
-        let rest = &bytes[byte..n];
-        if is_end(rest, bit) {
+        let rest = Rest::from_place(bytes, place);
+        if rest.is_end() {
             return m;
         }
-        m = step(m, told_at(rest, bit));
-        let end = bit + size_at(rest, bit);
-        byte = byte + end / 8;
-        bit = end % 8;
+        step(&mut m, rest.told());
+        place = place.behind(rest.size());
     }
 }
 
@@ -72,15 +66,14 @@ fn played(bytes: &[u8]) -> Module
 pub fn play(bytes: &[u8]) -> Done
     ensures { result ≡ play_call bytes.now }
 {
-    let number = check(bytes);
-    if number != numbers::DONE {
-        return Done {
+    match check(bytes) {
+        Ok(()) => Done {
+            after: played(bytes),
+            number: numbers::DONE,
+        },
+        Err(refusal) => Done {
             after: state::fresh(),
-            number: number,
-        };
-    }
-    Done {
-        after: played(bytes),
-        number: numbers::DONE,
+            number: refusal.number(),
+        },
     }
 }

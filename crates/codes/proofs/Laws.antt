@@ -5,9 +5,9 @@
 --    after_out, after_length                     a code of no key leaves a table as it was; every code leaves its length
 --    after_told                                  a table's keys after a code, as the replay tells them
 --    leading_most, leading_all                   at most all items lead; fewer than all exactly if one fails
---    leading_end, leading_stop, leading_go       a list walked from the front: its end, an item that stops, one that is passed
+--    leading_taken                               as many as `take_while` takes
 --    agreeing_most                               at most all codes agree
---    agreeing_end, agreeing_stop, agreeing_go    the same walk, with the keys that are down
+--    agreeing_end, agreeing_stop, agreeing_go    a list walked from the front, with the keys that are down: its end, a code that stops, one that is passed
 --    agreeing_legal                              of codes, fewer than all agree exactly if the list isn't legal
 --    down_replayed                               of codes, the keys down after them are those of the replay
 --    agreeing_legal_from, down_replayed_from     the same two, with keys down at first
@@ -23,7 +23,10 @@ use native.Mathlib.Omega.{arith}
 use mathlib.Core.Path.{◌≡◌, refl, sym, ap, ◌∙◌}
 use mathlib.Core.Bool.{Bool, true, false, not, ◌&&◌, beq}
 use mathlib.Core.List.{List, [], ◌∷◌}
-use lib.ListN.{length, get_or, set, drop, length-set, length-replicate, get_or-replicate, drop_of_length-le}
+use lib.ListN.{length, get_or, set, take, drop, length-set, length-replicate, get_or-replicate, drop_of_length-le}
+use Rattle.std.specs.List.{prefix_len}
+use Rattle.std.proofs.lemmas.List.Folds.{length-prefix_len}
+use Rattle.std.proofs.lemmas.List.Recursion.{same_from_clauses}
 use lib.Seq.{drop-cons, set_out, get_or-set_same, get_or-set_other}
 use lib.Dec.{ltb, eqb}
 use borrow.Author.Tests.{lt-ltb, le-ltb, ltb-false, eq-eqb, ne_eqb}
@@ -102,23 +105,12 @@ module _ {A : Type 0} (f : A → Bool) where
       go true e h = rw (leading_yes x l e, e) (ltb_next (leading f l) (length l) ∙ h)
       go false e h = rw (leading_no x l e, e) (lt-ltb 0 (suc (length l)) (omega arith))
 
--- n lead in the whole list; i were passed, and what is left begins at place i
-module _ {A : Type 0} (f : A → Bool) (l : List A) (i n : ℕ) (so : n ≡ i + leading f (drop i l)) where
-  pub leading_end : length l ≤ i → n ≡ i
-  unfolding leading
-  leading_end h = let e : n ≡ i + 0 = rw (drop_of_length-le l h) at so in omega arith
-
-  pub leading_stop : (d : A) → i < length l → f (get_or l i d) ≡ false → n ≡ i
-  leading_stop d h e =
-      let none = leading_no f (get_or l i d) (drop (suc i) l) e in
-      let s : n ≡ i + leading f (get_or l i d ∷ drop (suc i) l) = rw (drop-cons l i d h) at so in
-      omega arith
-
-  pub leading_go : (d : A) → i < length l → f (get_or l i d) ≡ true → n ≡ i + 1 + leading f (drop (i + 1) l)
-  leading_go d h e =
-      let one = leading_yes f (get_or l i d) (drop (suc i) l) e in
-      let s : n ≡ i + leading f (get_or l i d ∷ drop (suc i) l) = rw (drop-cons l i d h) at so in
-      rw (add-one i) (omega arith)
+-- `take_while` takes as many
+pub leading_taken : {A : Type 0} (f : A → Bool) (l : List A) → length (take (prefix_len f l) l) ≡ leading f l
+unfolding leading
+leading_taken f l =
+    length-prefix_len f l ∙
+    same_from_clauses (prefix_len f) (leading f) (λ x n. suc n if f x else 0) refl (λ x xs. ap (λ (n : ℕ). n if f x else 0) (omega arith)) (λ _ _. refl) l
 
 -- ---- the codes that agree
 module _ (t : List Bool) (c : ℕ) (cs : List ℕ) where

@@ -14,12 +14,7 @@ const RELEASES: u8 = 128;
 pub fn agrees(down: &[bool; KEYS], code: u8) -> bool
     ensures { result ≡ agrees down.now code }
 {
-    if !keys::is_code(code) {
-        return false;
-    }
-    let key = keys::key_of(code);
-    let press = code < RELEASES;
-    press != down[key]
+    keys::is_code(code) && (code < RELEASES) != down[keys::key_of(code)]
 }
 
 // A code is followed: its key is down after a press, and up after a release.
@@ -28,25 +23,19 @@ pub fn follow(down: &mut [bool; KEYS], code: u8)
 {
     let key = keys::key_of(code);
     // what is no code speaks of a place past the table's end
-    let table: &mut [bool] = down;
-    if table.len() <= key {
-        return;
+    if key < KEYS {
+        down[key] = code < RELEASES;
     }
-    table[key] = code < RELEASES;
 }
 
 // How many codes, from the first on, are press or release codes of keys.
 pub fn good(codes: &[u8]) -> usize
     ensures { (result ≡ leading is_code codes.now) × (result ≤ length codes.now) }
 {
-    let mut i: usize = 0;
-    while i < codes.len() {
-        if !keys::is_code(codes[i]) {
-            return i;
-        }
-        i = i + 1;
-    }
-    i
+    codes
+        .iter()
+        .take_while(|code| keys::is_code(**code))
+        .count()
 }
 
 // How many codes, from the first on, agree when their turn comes, no key being down at first.
@@ -54,16 +43,13 @@ pub fn agreeing(codes: &[u8]) -> usize
     ensures { (result ≡ agreeing none_down codes.now) × (result ≤ length codes.now) }
 {
     let mut down = [false; KEYS];
-    let mut i: usize = 0;
-    while i < codes.len() {
-        let code = codes[i];
-        if !agrees(&down, code) {
+    for (i, code) in codes.iter().enumerate() {
+        if !agrees(&down, *code) {
             return i;
         }
-        follow(&mut down, code);
-        i = i + 1;
+        follow(&mut down, *code);
     }
-    i
+    codes.len()
 }
 
 // The other code of the same key.
@@ -71,7 +57,8 @@ pub fn opposite(code: u8) -> u8
     ensures { result ≡ opposite code }
 {
     if code < RELEASES {
-        return code + RELEASES;
+        code + RELEASES
+    } else {
+        code - RELEASES
     }
-    code - RELEASES
 }

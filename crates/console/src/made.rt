@@ -1,15 +1,16 @@
 // Calls made, one by one, and the codes that their reads fetch.
-use crate::typed::{LOOK, READ, WRITE};
-use calls::Done;
-use carry::call::Call;
+ghost use Rattle.std.specs.Prelude.{◌≤◌};
+
+use crate::session::Session;
+use calls::lent;
+use carry::call::{Call, Kind};
 use keys::NO_CODE;
-use numbers::DONE;
+use numbers::Refusal;
 use state::Module;
 use text::list::as_bytes;
-use text::page::least;
 
 // How many fetched codes are kept.
-pub(crate) const KEPT: usize = 8192;
+const KEPT: usize = 8192;
 
 // There were more.
 const MORE: usize = KEPT + 1;
@@ -18,126 +19,117 @@ const MORE: usize = KEPT + 1;
 const EVTCODE: u8 = 0x10;
 
 // The address of the keypad size; a write of it restarts.
-const KBDSIZE: usize = 0x03;
+const KBDSIZE: u8 = 0x03;
 
-// What a call gives: its bytes if it was a read, and how many codes were fetched since the last restart.
-#[derive(Clone, Copy)]
-pub(crate) struct Made {
-    pub done: Done,
-    pub bytes: [u8; 33],
-    pub codes: usize,
+// The bytes of the longest access that is looked at: one more than are accepted.
+pub(crate) const BYTES: usize = 33;
+
+// The codes that were fetched since the last restart: the first of them, and how many there were, MORE at most.
+// kept: no heap
+#[derive(Drop)]
+pub(crate) struct Fetched {
+    codes: [u8; KEPT],
+    count: usize,
 }
 
-// One byte more was read where codes are fetched: how many codes there are.
-fn fetch(byte: u8, fetched: &mut [u8], codes: usize) -> usize {
-    if byte == NO_CODE {
-        return codes;
+impl Fetched {
+    // No codes.
+    pub(crate) fn new() -> Fetched {
+        Fetched {
+            codes: [0; KEPT],
+            count: 0,
+        }
     }
-    if fetched.len() <= codes {
-        return MORE;
+
+    // The codes that are kept.
+    pub(crate) fn kept(&self) -> &[u8] {
+        &self.codes[..self.count.min(KEPT)]
     }
-    fetched[codes] = byte;
-    codes + 1
+
+    // Were there more?
+    pub(crate) fn is_more(&self) -> bool {
+        KEPT < self.count
+    }
+
+    // After a restart no code was fetched.
+    pub(crate) fn restart(&mut self) {
+        self.count = 0;
+    }
+
+    // One byte more was read where codes are fetched.
+    fn fetch(&mut self, byte: u8) {
+        if byte == NO_CODE {
+            return;
+        }
+        if self.count < KEPT {
+            self.codes[self.count] = byte;
+            self.count += 1;
+        } else {
+            self.count = MORE;
+        }
+    }
 }
 
-// Bytes were read where codes are fetched: how many codes there are.
-fn fetch_all(bytes: &[u8], fetched: &mut [u8], codes: usize) -> usize {
-    let mut next = codes;
-    let mut i: usize = 0;
-    while i < bytes.len() {
-        next = fetch(bytes[i], fetched, next);
-        i = i + 1;
-    }
-    next
+// The address of an access.
+pub(crate) fn address(call: &Call) -> u8 {
+    (call.first % 256) as u8
+}
+
+// How many bytes of an access are looked at: more than 32 are declined, however many they are.
+pub(crate) fn size(call: &Call) -> usize
+    ensures { result ≤ 33 }
+{
+    usize::from(call.count).min(BYTES)
 }
 
 // Makes a look. More than eight samples are declined, however many they are.
-fn look(panel: Module, samples: [u16; 32], count: usize, codes: usize) -> Made {
-    let n = least(count, 32);
-    Made {
-        done: calls::look(panel, &samples[0..n]),
-        bytes: [0; 33],
-        codes: codes,
-    }
+fn look(panel: &mut Module, call: &Call) -> Result<(), Refusal> {
+    let n = usize::from(call.count).min(32);
+    lent::look(panel, &call.values[..n])
 }
 
-// After a write of so many bytes: if it was done and restarts, no code was fetched since.
-fn after_write(done: Done, first: usize, n: usize, codes: usize) -> usize {
-    if done.number != DONE {
-        return codes;
+// Makes a write. If it restarts, no code was fetched since.
+fn write(s: &mut Session, call: &Call) -> Result<(), Refusal> {
+    // kept: no heap
+    let mut bytes = [0; BYTES];
+    as_bytes(&call.values, &mut bytes);
+    let first = address(call);
+    let n = size(call);
+    lent::write(&mut s.panel, first, &bytes[..n])?;
+    if first <= KBDSIZE && usize::from(KBDSIZE - first) < n {
+        s.fetched.restart();
     }
-    if KBDSIZE < first {
-        return codes;
-    }
-    if n <= KBDSIZE - first {
-        return codes;
-    }
-    0
+    Ok(())
 }
 
-// Makes a write. More than 32 bytes are declined, however many they are.
-fn write(panel: Module, call: Call, codes: usize) -> Made {
-    let values = call.values;
-    let mut bytes = [0u8; 33];
-    as_bytes(&values, &mut bytes);
-    let first = (call.first % 256) as u8;
-    let n = least(call.count as usize, 33);
-    let done = calls::write(panel, first, &bytes[0..n]);
-    Made {
-        done: done,
-        bytes: [0; 33],
-        codes: after_write(done, first as usize, n, codes),
+// Makes a read. Where codes are fetched, its bytes are.
+fn read(s: &mut Session, call: &Call, bytes: &mut [u8; BYTES]) -> Result<(), Refusal> {
+    let first = address(call);
+    let n = size(call);
+    lent::read(&mut s.panel, first, &mut bytes[..n])?;
+    if first == EVTCODE {
+        for byte in &bytes[..n] {
+            s.fetched.fetch(*byte);
+        }
     }
+    Ok(())
 }
 
-// After a read of so many bytes: if it was done where codes are fetched, they are.
-fn after_read(
-    done: Done,
-    first: u8,
-    bytes: [u8; 33],
-    n: usize,
-    fetched: &mut [u8],
-    codes: usize,
-) -> usize {
-    if done.number != DONE {
-        return codes;
-    }
-    if first != EVTCODE {
-        return codes;
-    }
-    let m = least(n, 33);
-    fetch_all(&bytes[0..m], fetched, codes)
+// Resets the panel. After it no code was fetched.
+pub(crate) fn reset(s: &mut Session) {
+    s.panel = calls::reset().after;
+    s.fetched.restart();
 }
 
-// Makes a read. More than 32 bytes are declined, however many they are.
-fn read(panel: Module, call: Call, fetched: &mut [u8], codes: usize) -> Made {
-    let mut bytes = [0u8; 33];
-    let first = (call.first % 256) as u8;
-    let n = least(call.count as usize, 33);
-    let done = calls::read(panel, first, &mut bytes[0..n]);
-    Made {
-        done: done,
-        bytes: bytes,
-        codes: after_read(done, first, bytes, n, fetched, codes),
-    }
-}
-
-// Makes a call on a panel, so many codes being fetched before it.
-pub(crate) fn make(panel: Module, call: Call, fetched: &mut [u8], codes: usize) -> Made {
-    let kind = call.kind;
-    if kind == LOOK {
-        let samples = call.values;
-        return look(panel, samples, call.count as usize, codes);
-    }
-    if kind == WRITE {
-        return write(panel, call, codes);
-    }
-    if kind == READ {
-        return read(panel, call, fetched, codes);
-    }
-    Made {
-        done: calls::reset(),
-        bytes: [0; 33],
-        codes: 0,
+// Makes a call; the bytes of a read go to the buffer.
+pub(crate) fn make(s: &mut Session, call: &Call, bytes: &mut [u8; BYTES]) -> Result<(), Refusal> {
+    match call.kind() {
+        Kind::Look => look(&mut s.panel, call),
+        Kind::Write => write(s, call),
+        Kind::Read => read(s, call, bytes),
+        Kind::Reset => {
+            reset(s);
+            Ok(())
+        }
     }
 }

@@ -1,299 +1,225 @@
 // The commands, done and answered.
 ghost use Rattle.std.specs.Prelude.{◌≤◌, length};
 
-use crate::commands::{Heard, Pair};
-use crate::made::make;
-use crate::recorder::{heeded, noted};
-use crate::reply::{bytes_read, on_page, question, refused, told};
+use crate::commands::{key_of, no_more, too_many};
+use crate::made::{BYTES, make, size};
+use crate::recorder::heed;
+use crate::reply::{listed, question, told};
 use crate::session::Session;
-use crate::typed::{LOOK, NONE, READ, call_of, eight_of, kind_of, refused_call};
-use crate::{block, carried, commands, fingers, groups, pack, spare};
-use answers::refusal::{Kind, too_long, unknown};
+use crate::typed::{call_of, form_of, kind_of, samples_of};
+use crate::{block, carried, fingers, groups, pack, spare};
+use answers::refusal::{Kind, Wrong, refusal, too_long, unknown};
 use answers::{draw, help};
-use calls::Done;
+use calls::lent;
+use carry::call;
 use carry::call::Call;
-use keys::{Col, Row};
-use std::fs::File;
 use text::lines::without_return;
-use text::page::least;
-use text::word::{is_same, word_from};
+use text::word::word_from;
 
 // The bytes of the longest line.
 pub(crate) const LONGEST: usize = 16384;
 
 const COMMENT: u8 = b'#';
 
-// After a look: if it was done, the contacts are as its samples.
-fn looked(s: Session, samples: [u16; 32], done: Done) -> Session {
-    if done.number != numbers::DONE {
-        return told(s, done);
-    }
-    let contacts = eight_of(samples);
-    let mut next = s;
-    next.contacts = contacts;
-    told(next, done)
-}
-
-// After a read of so many bytes: they are told, if it was done.
-fn took(s: Session, bytes: [u8; 33], count: usize, done: Done) -> Session {
-    let n = least(count, 33);
-    bytes_read(s, done, &bytes[0..n])
+// The commands.
+#[derive(Clone, Copy)]
+enum Command {
+    Call(call::Kind),
+    Looks,
+    Pack,
+    Unpack,
+    Play,
+    Group,
+    Groups,
+    Fetch,
+    Undo,
+    Press,
+    Release,
+    Wait,
+    Held,
+    Irq,
+    Pins,
+    Drive,
+    Show,
+    Help,
+    Quit,
 }
 
 // Makes a call, records it and answers it.
-fn answered(s: Session, call: Call, fetched: &mut [u8], file: Option<&File>) -> Session {
-    let made = make(s.panel, call, fetched, s.codes);
-    let done = made.done;
-    let kind = call.kind;
-    let mut next = noted(s, call, done.number, file);
-    next.codes = made.codes;
-    if kind == LOOK {
-        let samples = call.values;
-        return looked(next, samples, done);
+fn answered(s: &mut Session, call: Call) {
+    // kept: no heap
+    let mut bytes = [0; BYTES];
+    let outcome = make(s, &call, &mut bytes);
+    s.tape.note(call, outcome);
+    match (call.kind(), outcome) {
+        (call::Kind::Read, Ok(())) => listed(&mut s.out, Ok(&bytes[..size(&call)])),
+        (call::Kind::Look, Ok(())) => {
+            s.contacts = samples_of(&call);
+            told(&mut s.out, outcome);
+        }
+        _ => told(&mut s.out, outcome),
     }
-    if kind == READ {
-        let bytes = made.bytes;
-        return took(next, bytes, call.count as usize, done);
-    }
-    told(next, done)
 }
 
 // `look S0 S1 ..`, `write AA B0 B1 ..`, `read AA COUNT`, `reset`
-fn called(
-    s: Session,
-    kind: u16,
-    rest: &[u8],
-    list: &mut [u16],
-    fetched: &mut [u8],
-    file: Option<&File>,
-) -> Session {
-    let typed = call_of(kind, rest, list);
-    let call = typed.call;
-    let heard = typed.heard;
-    match heard {
-        Heard::Wrong(wrong) => on_page(s, refused_call(s.page, kind, rest, wrong)),
-        Heard::Well => answered(s, call, fetched, file),
-    }
+fn called(s: &mut Session, kind: call::Kind, rest: &[u8]) -> Result<(), Wrong> {
+    let call = call_of(kind, rest, &mut s.list)?;
+    answered(s, call);
+    Ok(())
 }
 
 // `held ROW COL`
-fn held(s: Session, rest: &[u8]) -> Session {
-    let pair = commands::pair_of(rest, Kind::Asked, Kind::Asked);
-    match pair {
-        Pair::Wrong(wrong) => refused(s, rest, wrong, b"held ROW COL"),
-        Pair::Numbers(row, col) => {
-            question(
-                s,
-                calls::held(s.panel, Row((row % 256) as u8), Col((col % 256) as u8)),
-            )
+fn held(s: &mut Session, rest: &[u8]) -> Result<(), Wrong> {
+    let (row, col) = key_of(rest, Kind::Asked, Kind::Asked)?;
+    question(&mut s.out, lent::held(&s.panel, row, col));
+    Ok(())
+}
+
+// `irq`
+fn irq(s: &mut Session, rest: &[u8]) -> Result<(), Wrong> {
+    no_more(rest)?;
+    question(&mut s.out, lent::interrupt(&s.panel));
+    Ok(())
+}
+
+// `show`
+fn show(s: &mut Session, rest: &[u8]) -> Result<(), Wrong> {
+    no_more(rest)?;
+    draw::show(&mut s.out, &s.panel);
+    Ok(())
+}
+
+// `help`, `help numbers`
+fn helped(s: &mut Session, rest: &[u8]) -> Result<(), Wrong> {
+    let w = word_from(rest, 0);
+    if w.start == w.end {
+        help::commands(&mut s.out);
+        return Ok(());
+    }
+    no_more(&rest[w.end..])?;
+    if !matches!(&rest[w.start..w.end], b"numbers") {
+        return Err(too_many());
+    }
+    help::numbers(&mut s.out);
+    Ok(())
+}
+
+// `quit`
+fn quit(s: &mut Session, rest: &[u8]) -> Result<(), Wrong> {
+    no_more(rest)?;
+    s.on = false;
+    Ok(())
+}
+
+// The command that a word names.
+fn command_of(word: &[u8]) -> Option<Command> {
+    Some(match word {
+        b"looks" => Command::Looks,
+        b"pack" => Command::Pack,
+        b"unpack" => Command::Unpack,
+        b"play" => Command::Play,
+        b"group" => Command::Group,
+        b"groups" => Command::Groups,
+        b"fetch" => Command::Fetch,
+        b"undo" => Command::Undo,
+        b"press" => Command::Press,
+        b"release" => Command::Release,
+        b"wait" => Command::Wait,
+        b"held" => Command::Held,
+        b"irq" => Command::Irq,
+        b"pins" => Command::Pins,
+        b"drive" => Command::Drive,
+        b"show" => Command::Show,
+        b"help" => Command::Help,
+        b"quit" => Command::Quit,
+        _ => Command::Call(kind_of(word)?),
+    })
+}
+
+impl Command {
+    // How it is typed.
+    fn form(self) -> &'static [u8] {
+        match self {
+            Command::Call(kind) => form_of(kind),
+            Command::Looks => b"looks S0 S1 ..",
+            Command::Pack => b"pack ROOM CALL ; CALL ..",
+            Command::Unpack => b"unpack HEX..",
+            Command::Play => b"play HEX..",
+            Command::Group => b"group RULE TRIM PLACE C0 C1 ..",
+            Command::Groups => b"groups RULE TRIM C0 C1 ..",
+            Command::Fetch => b"fetch RULE TRIM PLACE C0 C1 ..",
+            Command::Undo => b"undo TRIM, undo TRIM : C0 C1 ..",
+            Command::Press => b"press ROW COL",
+            Command::Release => b"release ROW COL",
+            Command::Wait => b"wait N",
+            Command::Held => b"held ROW COL",
+            Command::Irq => b"irq",
+            Command::Pins => b"pins SAMPLE",
+            Command::Drive => b"drive",
+            Command::Show => b"show",
+            Command::Help => b"help, help numbers",
+            Command::Quit => b"quit",
+        }
+    }
+
+    // Does it, with the words behind it, and answers it, unless something is wrong with them.
+    // kept: `length rest.now ≤ 16384` stands in eight contracts: each hands the slice itself on, which a struct for a line would have to give back, and be no plainer
+    fn done(self, s: &mut Session, rest: &[u8]) -> Result<(), Wrong>
+        requires { length rest.now ≤ 16384 }
+    {
+        match self {
+            Command::Call(kind) => called(s, kind, rest),
+            Command::Looks => block::looks(s, rest),
+            Command::Pack => pack::pack(s, rest),
+            Command::Unpack => carried::unpack(s, rest),
+            Command::Play => carried::play(s, rest),
+            Command::Group => groups::group(s, rest),
+            Command::Groups => groups::all(s, rest),
+            Command::Fetch => groups::fetch(s, rest),
+            Command::Undo => groups::undo(s, rest),
+            Command::Press => fingers::press(s, rest),
+            Command::Release => fingers::release(s, rest),
+            Command::Wait => fingers::wait(s, rest),
+            Command::Held => held(s, rest),
+            Command::Irq => irq(s, rest),
+            Command::Pins => spare::pins(s, rest),
+            Command::Drive => spare::drive(s, rest),
+            Command::Show => show(s, rest),
+            Command::Help => helped(s, rest),
+            Command::Quit => quit(s, rest),
         }
     }
 }
 
-// `irq`
-fn irq(s: Session, rest: &[u8]) -> Session {
-    if !commands::is_empty(rest) {
-        return refused(s, rest, commands::too_many(), b"irq");
-    }
-    question(s, calls::interrupt(s.panel))
-}
-
-// `show`
-fn show(s: Session, rest: &[u8]) -> Session {
-    if !commands::is_empty(rest) {
-        return refused(s, rest, commands::too_many(), b"show");
-    }
-    on_page(s, draw::show(s.page, s.panel))
-}
-
-// The word behind `help`: it is the last, and there is one list for it.
-fn help_with(s: Session, rest: &[u8], word: &[u8], last: bool) -> Session {
-    if last & is_same(word, b"numbers") {
-        return on_page(s, help::numbers(s.page));
-    }
-    refused(s, rest, commands::too_many(), b"help, help numbers")
-}
-
-// `help`, `help numbers`
-fn helped(s: Session, rest: &[u8]) -> Session {
-    let w = word_from(rest, 0);
-    let start = w.start;
-    let end = w.end;
-    if start == end {
-        return on_page(s, help::commands(s.page));
-    }
-    let n = rest.len();
-    help_with(
-        s,
-        rest,
-        &rest[start..end],
-        commands::is_empty(&rest[end..n]),
-    )
-}
-
-// `quit`
-fn quit(s: Session, rest: &[u8]) -> Session {
-    if !commands::is_empty(rest) {
-        return refused(s, rest, commands::too_many(), b"quit");
-    }
-    let mut next = s;
-    next.on = false;
-    next
-}
-
-// The commands of the session; no other word is a command.
-fn of_session(s: Session, word: &[u8], rest: &[u8]) -> Session {
-    if is_same(word, b"show") {
-        return show(s, rest);
-    }
-    if is_same(word, b"help") {
-        return helped(s, rest);
-    }
-    if is_same(word, b"quit") {
-        return quit(s, rest);
-    }
-    on_page(s, unknown(s.page, word))
-}
-
-// The commands of the spare pins.
-fn of_pins(s: Session, word: &[u8], rest: &[u8]) -> Session {
-    if is_same(word, b"pins") {
-        return spare::pins(s, rest);
-    }
-    if is_same(word, b"drive") {
-        return spare::drive(s, rest);
-    }
-    of_session(s, word, rest)
-}
-
-// The questions.
-fn of_panel(s: Session, word: &[u8], rest: &[u8]) -> Session {
-    if is_same(word, b"held") {
-        return held(s, rest);
-    }
-    if is_same(word, b"irq") {
-        return irq(s, rest);
-    }
-    of_pins(s, word, rest)
-}
-
-// The commands of fingers.
-fn of_fingers(s: Session, word: &[u8], rest: &[u8], file: Option<&File>) -> Session {
-    if is_same(word, b"press") {
-        return fingers::press(s, rest, file);
-    }
-    if is_same(word, b"release") {
-        return fingers::release(s, rest, file);
-    }
-    if is_same(word, b"wait") {
-        return fingers::wait(s, rest, file);
-    }
-    of_panel(s, word, rest)
-}
-
-// The commands of undo groups.
-fn of_groups(
-    s: Session,
-    word: &[u8],
-    rest: &[u8],
-    list: &mut [u16],
-    fetched: &[u8],
-    file: Option<&File>,
-) -> Session {
-    if is_same(word, b"group") {
-        return groups::group(s, rest, list);
-    }
-    if is_same(word, b"groups") {
-        return groups::groups(s, rest, list);
-    }
-    if is_same(word, b"fetch") {
-        return groups::fetch(s, rest, list);
-    }
-    if is_same(word, b"undo") {
-        return groups::undo(s, rest, list, fetched);
-    }
-    of_fingers(s, word, rest, file)
-}
-
-// The commands of packed lists.
-fn of_lists(
-    s: Session,
-    word: &[u8],
-    rest: &[u8],
-    list: &mut [u16],
-    fetched: &mut [u8],
-    file: Option<&File>,
-) -> Session
-    requires { length rest.now ≤ 16384 }
-{
-    if is_same(word, b"pack") {
-        return pack::pack(s, rest, list);
-    }
-    if is_same(word, b"unpack") {
-        return carried::unpack(s, rest);
-    }
-    if is_same(word, b"play") {
-        return carried::play(s, rest, fetched, file);
-    }
-    of_groups(s, word, rest, list, fetched, file)
-}
-
 // Does the command that a word names, with the words behind it, and answers it.
-// Each group of commands has a function, since the check of many arms in one grows with their square.
-fn named(
-    s: Session,
-    word: &[u8],
-    rest: &[u8],
-    list: &mut [u16],
-    fetched: &mut [u8],
-    file: Option<&File>,
-) -> Session
+fn named(s: &mut Session, word: &[u8], rest: &[u8])
     requires { length rest.now ≤ 16384 }
 {
-    let kind = kind_of(word);
-    if kind != NONE {
-        return called(s, kind, rest, list, fetched, file);
+    let Some(command) = command_of(word) else {
+        unknown(&mut s.out, word);
+        return;
+    };
+    if let Err(wrong) = command.done(s, rest) {
+        refusal(&mut s.out, rest, wrong, command.form());
     }
-    if is_same(word, b"looks") {
-        return block::looks(s, rest, list, file);
-    }
-    of_lists(s, word, rest, list, fetched, file)
 }
 
 // Does the command of a line that is not too long. A blank line and a comment ask for nothing.
-fn asked(
-    s: Session,
-    line: &[u8],
-    list: &mut [u16],
-    fetched: &mut [u8],
-    file: Option<&File>,
-) -> Session
+fn asked(s: &mut Session, line: &[u8])
     requires { length line.now ≤ 16384 }
 {
     let w = word_from(line, 0);
-    let start = w.start;
-    let end = w.end;
-    if start == end {
-        return s;
+    if w.start < w.end && line[w.start] != COMMENT {
+        named(s, &line[w.start..w.end], &line[w.end..]);
     }
-    if line[start] == COMMENT {
-        return s;
-    }
-    let n = line.len();
-    named(s, &line[start..end], &line[end..n], list, fetched, file)
 }
 
-// Does what a line asks for and answers it; its numbers go to the list, the codes that it fetches to those fetched, and what is recorded of it to the file, if there is one.
-pub(crate) fn perform(
-    s: Session,
-    line: &[u8],
-    list: &mut [u16],
-    fetched: &mut [u8],
-    file: Option<&File>,
-) -> Session {
+// Does what a line asks for and answers it.
+pub(crate) fn perform(s: &mut Session, line: &[u8]) {
     if LONGEST < line.len() {
-        return on_page(s, too_long(s.page));
+        too_long(&mut s.out);
+        return;
     }
-    let n = without_return(line);
-    heeded(asked(s, &line[0..n], list, fetched, file))
+    asked(s, &line[..without_return(line)]);
+    heed(s);
 }

@@ -1,23 +1,21 @@
 // `pins SAMPLE` and `drive`: the spare pins. No packed list has either, so neither is recorded.
-use crate::commands;
-use crate::commands::{Pair, pair_with};
-use crate::reply::{levels, refused, told};
+use crate::commands::{last_number, no_more};
+use crate::reply::{levels, told};
 use crate::session::Session;
-use answers::refusal::Kind;
+use answers::refusal::{Kind, Wrong};
+use calls::lent;
 
 // `pins SAMPLE`
-pub(crate) fn pins(s: Session, rest: &[u8]) -> Session {
-    let pair = pair_with(0, rest, 0, Kind::Pins);
-    match pair {
-        Pair::Wrong(wrong) => refused(s, rest, wrong, b"pins SAMPLE"),
-        Pair::Numbers(_, sample) => told(s, calls::pins(s.panel, sample)),
-    }
+pub(crate) fn pins(s: &mut Session, rest: &[u8]) -> Result<(), Wrong> {
+    let sample = last_number(rest, 0, Kind::Pins)?;
+    told(&mut s.out, lent::pins(&mut s.panel, sample));
+    Ok(())
 }
 
+// kept: `irq` is its like; two lines each are plainer than one function that is given question and answer
 // `drive`
-pub(crate) fn drive(s: Session, rest: &[u8]) -> Session {
-    if !commands::is_empty(rest) {
-        return refused(s, rest, commands::too_many(), b"drive");
-    }
-    levels(s, calls::drive(s.panel))
+pub(crate) fn drive(s: &mut Session, rest: &[u8]) -> Result<(), Wrong> {
+    no_more(rest)?;
+    levels(&mut s.out, lent::drive(&s.panel));
+    Ok(())
 }

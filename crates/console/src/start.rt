@@ -1,77 +1,50 @@
 // What comes before the first line, by the words behind the program's name: `record FILE`, `play FILE`, or both.
-ghost use Rattle.std.specs.Prelude.{◌≡◌, ◌≤◌, length};
+ghost use Rattle.std.specs.Prelude.{◌≡◌, ◌≤◌, length, IfOk, IfSome};
 
 use crate::carried::played;
-use crate::recorder::recording;
-use crate::reply::on_page;
 use crate::session::Session;
 use answers::files;
-use answers::out::Output;
 use carry::reader;
 use std::env::{Env, FillError};
 use std::fs::File;
+use std::io;
 use std::io::Read;
 use std::rt::Files;
 use std::str::from_utf8;
-use text::word::is_same;
 
 // The bytes of the longest file that is played.
 const LONGEST: usize = 1048576;
 
-// The places of the two files among the program's words; 0 if there is none.
+// The places of the two files among the program's words.
 #[derive(Clone, Copy)]
 struct Named {
-    record: usize,
-    play: usize,
-    known: bool,
+    record: Option<usize>,
+    play: Option<usize>,
 }
 
-// What was read of a file.
+// Why no session begins.
 #[derive(Clone, Copy)]
-struct Got {
-    count: usize,
-    well: bool,
-}
-
-// A session that begins, and the file that it is recorded to, if there is one.
-#[derive(Drop)]
-pub(crate) struct Beginning {
-    pub s: Session,
-    pub file: Option<File>,
-}
-
-// The files at these places.
-fn files_at(record: usize, play: usize) -> Named {
-    Named {
-        record: record,
-        play: play,
-        known: true,
-    }
-}
-
-// Words that name no files.
-fn no_files() -> Named {
-    Named {
-        record: 0,
-        play: 0,
-        known: false,
-    }
+enum Stop {
+    Unknown,
+    Unreadable,
+    TooLong,
+    NoList,
+    Unwritable,
 }
 
 // Is the word at a place behind the program's name this one?
 fn is_word(rt: &impl Env, place: usize, name: &[u8]) -> bool {
-    let mut word = [0u8; 16];
+    // kept: no heap
+    let mut word = [0; 16];
     let n = rt.arg(place, &mut word).unwrap_or(0);
-    is_same(&word[0..n], name)
+    &word[..n] == name
 }
 
 // Is there a word at a place?
 fn is_there(rt: &impl Env, place: usize) -> bool {
-    let mut word = [0u8; 16];
-    match rt.arg(place, &mut word) {
-        Err(FillError::NotPresent) => false,
-        _ => true,
-    }
+    // kept: no heap
+    let mut word = [0; 16];
+    !matches!(rt.arg(place, &mut word), Err(FillError::NotPresent))
 }
 
 // How many words there are, the program's name among them; six if there are more.
@@ -85,145 +58,108 @@ fn word_count(rt: &impl Env) -> usize {
 }
 
 // The files of two words.
-fn of_one(rt: &impl Env) -> Named {
+fn of_one(rt: &impl Env) -> Option<Named> {
     if is_word(rt, 1, b"record") {
-        return files_at(2, 0);
+        Some(Named {
+            record: Some(2),
+            play: None,
+        })
+    } else if is_word(rt, 1, b"play") {
+        Some(Named {
+            record: None,
+            play: Some(2),
+        })
+    } else {
+        None
     }
-    if is_word(rt, 1, b"play") {
-        return files_at(0, 2);
-    }
-    no_files()
 }
 
 // The files of four words.
-fn of_two(rt: &impl Env) -> Named {
-    if is_word(rt, 1, b"record") & is_word(rt, 3, b"play") {
-        return files_at(2, 4);
+fn of_two(rt: &impl Env) -> Option<Named> {
+    if is_word(rt, 1, b"record") && is_word(rt, 3, b"play") {
+        Some(Named {
+            record: Some(2),
+            play: Some(4),
+        })
+    } else if is_word(rt, 1, b"play") && is_word(rt, 3, b"record") {
+        Some(Named {
+            record: Some(4),
+            play: Some(2),
+        })
+    } else {
+        None
     }
-    if is_word(rt, 1, b"play") & is_word(rt, 3, b"record") {
-        return files_at(4, 2);
-    }
-    no_files()
 }
 
-// The files that the words behind the program's name name.
-fn files_named(rt: &impl Env) -> Named {
-    let count = word_count(rt);
-    if count < 2 {
-        return files_at(0, 0);
+// The files that the words behind the program's name name; none if the words are unknown.
+fn files_named(rt: &impl Env) -> Option<Named> {
+    match word_count(rt) {
+        0 | 1 => Some(Named {
+            record: None,
+            play: None,
+        }),
+        3 => of_one(rt),
+        5 => of_two(rt),
+        _ => None,
     }
-    if count == 3 {
-        return of_one(rt);
-    }
-    if count == 5 {
-        return of_two(rt);
-    }
-    no_files()
-}
-
-// The session, recorded to no file.
-fn unrecorded(s: Session) -> Beginning {
-    Beginning { s: s, file: None }
-}
-
-// Nothing is done but this answered.
-fn stopped(s: Session, page: Output) -> Beginning {
-    let mut next = on_page(s, page);
-    next.on = false;
-    unrecorded(next)
 }
 
 // The name at a place of the words; none if it is too long, or no UTF-8.
 fn name_at<'a>(rt: &impl Env, place: usize, name: &'a mut [u8; 4096]) -> Option<&'a str> {
     let n = rt.arg(place, name).ok()?;
-    from_utf8(&name[0..n]).ok()
+    from_utf8(&name[..n]).ok()
 }
 
+// kept: `opened_at` is its like; they differ in the call of std alone, which a closure would only wrap
 // The file at a place of the words, made anew.
 fn made_at<R: Env + Files>(rt: &R, place: usize) -> Option<R::File> {
-    let mut name = [0u8; 4096];
+    // kept: no heap
+    let mut name = [0; 4096];
     File::create(rt, name_at(rt, place, &mut name)?).ok()
 }
 
 // The file at a place of the words, to be read.
 fn opened_at<R: Env + Files>(rt: &R, place: usize) -> Option<R::File> {
-    let mut name = [0u8; 4096];
+    // kept: no heap
+    let mut name = [0; 4096];
     File::open(rt, name_at(rt, place, &mut name)?).ok()
 }
 
-// The session, recorded to the file at a place of the words, if there is one.
-fn recorded_to<R: Env + Files<File = File>>(rt: &R, s: Session, place: usize) -> Beginning {
-    if place < 1 {
-        return unrecorded(s);
+// The session is recorded to the file at a place of the words, if there is one.
+fn record_to<R: Env + Files<File = File>>(
+    rt: &R,
+    s: &mut Session,
+    place: Option<usize>,
+) -> Result<(), Stop> {
+    if let Some(place) = place {
+        let file = made_at(rt, place).ok_or(Stop::Unwritable)?;
+        s.tape.begin(file);
     }
-    let Some(file) = made_at(rt, place) else {
-        return stopped(s, files::unwritable(s.page));
-    };
-    let mut next = s;
-    next.tape = recording();
-    Beginning {
-        s: next,
-        file: Some(file),
-    }
+    Ok(())
 }
 
-// Reads a file to its end, or as much of it as there is room for.
-fn read_to_end(file: &mut impl Read, bytes: &mut [u8]) -> Got
-    ensures { result.count ≤ length bytes.new }
+// Reads a file to its end, or as much of it as there is room for: how many bytes.
+fn read_to_end(file: &mut impl Read, bytes: &mut [u8]) -> io::Result<usize>
+    ensures { IfOk result (λ count. count ≤ length bytes.new) }
 {
-    let n = bytes.len();
-    let mut at: usize = 0;
-    while at < n {
-        let got = file.read(&mut bytes[at..n]);
-        let well = got.is_ok();
-        let more = got.unwrap_or(0);
+    let mut at = 0;
+    // kept: each turn reads as many bytes as come: no index counts
+    while at < bytes.len() {
+        let more = file.read(&mut bytes[at..])?;
         if more < 1 {
-            return Got {
-                count: at,
-                well: well,
-            };
+            break;
         }
-        at = at + more;
+        at += more;
     }
-    Got {
-        count: n,
-        well: true,
-    }
+    Ok(at)
 }
 
 // Reads the file at a place of the words.
-fn read_named<R: Env + Files>(rt: &R, place: usize, bytes: &mut [u8]) -> Got
-    ensures { result.count ≤ length bytes.new }
+fn read_named<R: Env + Files>(rt: &R, place: usize, bytes: &mut [u8]) -> Option<usize>
+    ensures { IfSome result (λ count. count ≤ length bytes.new) }
 {
-    let Some(mut file) = opened_at(rt, place) else {
-        return Got {
-            count: 0,
-            well: false,
-        };
-    };
-    read_to_end(&mut file, bytes)
-}
-
-// Plays what was read, and records it first if there is a file to record to.
-fn played_first<R: Env + Files<File = File>>(
-    rt: &R,
-    s: Session,
-    bytes: &[u8],
-    record: usize,
-    fetched: &mut [u8],
-) -> Beginning {
-    if reader::check(bytes) != numbers::DONE {
-        return stopped(s, files::no_list(s.page));
-    }
-    let Beginning { s: next, file } = recorded_to(rt, s, record);
-    if !next.on {
-        return Beginning {
-            s: next,
-            file: file,
-        };
-    }
-    let p = played(next, bytes, fetched, file.as_ref());
-    Beginning { s: p.s, file: file }
+    let mut file = opened_at(rt, place)?;
+    read_to_end(&mut file, bytes).ok()
 }
 
 // Space for the longest file that is played, and for one byte more.
@@ -233,40 +169,46 @@ fn space() -> [u8; 1048577]
     [0; 1048577]
 }
 
-// Plays the file at a place of the words.
-fn played_from<R: Env + Files<File = File>>(
+// Plays the file at a place of the words, and records it first if there is a file to record to.
+fn play_from<R: Env + Files<File = File>>(
     rt: &R,
-    s: Session,
+    s: &mut Session,
     play: usize,
-    record: usize,
-    fetched: &mut [u8],
-) -> Beginning {
+    record: Option<usize>,
+) -> Result<(), Stop> {
     let mut bytes = space();
-    let got = read_named(rt, play, &mut bytes);
-    let count = got.count;
-    if !got.well {
-        return stopped(s, files::unreadable(s.page));
-    }
+    let count = read_named(rt, play, &mut bytes).ok_or(Stop::Unreadable)?;
     if LONGEST < count {
-        return stopped(s, files::too_long(s.page));
+        return Err(Stop::TooLong);
     }
-    played_first(rt, s, &bytes[0..count], record, fetched)
+    if reader::check(&bytes[..count]).is_err() {
+        return Err(Stop::NoList);
+    }
+    record_to(rt, s, record)?;
+    let _ = played(s, &bytes[..count]);
+    Ok(())
 }
 
-// The session before its first line is read; the codes that a file's reads fetch go to those fetched.
-pub(crate) fn begun<R: Env + Files<File = File>>(
-    rt: &R,
-    s: Session,
-    fetched: &mut [u8],
-) -> Beginning {
-    let named = files_named(rt);
-    if !named.known {
-        return stopped(s, files::unknown(s.page));
+// Does what the words behind the program's name ask for.
+fn begun<R: Env + Files<File = File>>(rt: &R, s: &mut Session) -> Result<(), Stop> {
+    let Named { record, play } = files_named(rt).ok_or(Stop::Unknown)?;
+    match play {
+        Some(play) => play_from(rt, s, play, record),
+        None => record_to(rt, s, record),
     }
-    let record = named.record;
-    let play = named.play;
-    if play < 1 {
-        return recorded_to(rt, s, record);
+}
+
+// The session before its first line is read. If none begins, that is answered and nothing is done.
+pub(crate) fn begin<R: Env + Files<File = File>>(rt: &R, s: &mut Session) {
+    let Err(stop) = begun(rt, s) else {
+        return;
+    };
+    match stop {
+        Stop::Unknown => files::unknown(&mut s.out),
+        Stop::Unreadable => files::unreadable(&mut s.out),
+        Stop::TooLong => files::too_long(&mut s.out),
+        Stop::NoList => files::no_list(&mut s.out),
+        Stop::Unwritable => files::unwritable(&mut s.out),
     }
-    played_from(rt, s, play, record, fetched)
+    s.on = false;
 }

@@ -8,11 +8,16 @@
 -- Each Post is what the toolchain makes of the `ensures` lines in crates/calls/src/ and crates/carry/src/: no definition of ours stands between.
 -- Assumes nothing.
 use Prim.Native.Nat.{ℕ}
-use mathlib.Core.Path.{◌≡◌, refl, sym, ◌∙◌}
+use mathlib.Core.Path.{◌≡◌, refl, sym, ap, ◌∙◌}
 use mathlib.Core.List.{List}
 use contract.Lifetimes.{Lfts}
 use denote.Triple.Clauses.{Lasts, at_exit}
 use borrow.Fn.Kinds.{ParamKind, ResultKind, Dens, res_t, ended_of, Out}
+use Rattle.std.specs.Prelude.{Result, Ok, Err}
+use Rattle.numbers.specs.declared.Refusal.{Refusal}
+use Rattle.numbers.proofs.Laws.{refused, number_one, told_one}
+use Rattle.carry.specs.declared.call.Place.{Place}
+use Rattle.carry.specs.Writer.{Packed, as_packed, Added, as_added}
 use Rattle.calls.proofs.reset.Kinds as reset-kinds
 use Rattle.calls.proofs.reset.Reads as reset
 use Rattle.calls.proofs.look.Kinds as look-kinds
@@ -81,15 +86,28 @@ drive_determined κs a x y v w p q = (p ∙ sym q, refl)
 pub looks_determined : Determined 1 looks-kinds.ps looks-kinds.r looks.Post
 looks_determined κs a x y v w p q = (p ∙ sym q, refl)
 
+-- what the writer tells is told of one outcome alone
+packed_one : (x y : Result ℕ Refusal) → as_packed x ≡ as_packed y → x ≡ y
+packed_one (Ok n) (Ok k) e = ap Ok (ap (λ (p : Packed). p.length) e)
+packed_one (Ok n) (Err r) e = absurd (refused r (sym (ap (λ (p : Packed). p.number) e)))
+packed_one (Err r) (Ok n) e = absurd (refused r (ap (λ (p : Packed). p.number) e))
+packed_one (Err r) (Err s) e = ap Err (number_one r s (ap (λ (p : Packed). p.number) e))
+
+added_one : (p : Place) (x y : Result Place Refusal) → as_added p x ≡ as_added p y → x ≡ y
+added_one p (Ok n) (Ok k) e = ap Ok (λ i. record { byte = (e i).byte; bit = (e i).bit })
+added_one p (Ok n) (Err r) e = absurd (refused r (sym (ap (λ (a : Added). a.number) e)))
+added_one p (Err r) (Ok n) e = absurd (refused r (ap (λ (a : Added). a.number) e))
+added_one p (Err r) (Err s) e = ap Err (number_one r s (ap (λ (a : Added). a.number) e))
+
 -- packed lists: the buffer, each byte of it, is all that is lent to be altered
 pub pack_determined : Determined 2 pack-kinds.ps pack-kinds.r packs.Post
-pack_determined κs a x y v w p q = (p.0 ∙ sym q.0, λ i. (tt, ((p.1 ∙ sym q.1) i, tt)))
+pack_determined κs a x y v w p q = (packed_one x y (p.0 ∙ sym q.0), λ i. (tt, ((p.1 ∙ sym q.1) i, tt)))
 
 pub add_determined : Determined 1 add-kinds.ps add-kinds.r adds.Post
-add_determined κs a x y v w p q = (p.0 ∙ sym q.0, λ i. (tt, ((p.1 ∙ sym q.1) i, (tt, (tt, tt)))))
+add_determined κs a x y v w p q = (added_one a.1.1.0 x y (p.0 ∙ sym q.0), λ i. (tt, ((p.1 ∙ sym q.1) i, (tt, tt))))
 
 pub check_determined : Determined 1 check-kinds.ps check-kinds.r checks.Post
-check_determined κs a x y v w p q = (p ∙ sym q, refl)
+check_determined κs a x y v w p q = (told_one x y (p ∙ sym q), refl)
 
 pub record_determined : Determined 1 record-kinds.ps record-kinds.r records.Post
 record_determined κs a x y v w p q = (p ∙ sym q, refl)

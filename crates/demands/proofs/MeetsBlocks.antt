@@ -31,8 +31,7 @@ use Rattle.scan.specs.Scan.{looked}
 use Rattle.calls.specs.Blocks as calls
 use Rattle.calls.specs.Blocks.{block_lines, looks_call}
 use Rattle.calls.specs.Calls.{look_lines, look_number, outcome, look_call}
-use Rattle.calls.specs.Walk.{Judged}
-use Rattle.calls.proofs.Kept.{looked_kept}
+use Rattle.calls.proofs.Kept.{Judged, looked_kept}
 use Rattle.demands.specs.Table.{◌⇒◌, First, Unsound, HighBits}
 use Rattle.demands.specs.Sleep.{NotTwiceWide}
 use Rattle.demands.specs.Blocks.{Block, none, one_more, singles, NotEights, block_rules, BlockDemand, Act, Demand1Wide, after_acts, DemandsWide, spelled}

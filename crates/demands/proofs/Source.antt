@@ -38,10 +38,12 @@ use Rattle.calls.proofs.pins.Kinds as pins-kinds
 use Rattle.calls.proofs.pins.Reads as samples
 use Rattle.calls.proofs.drive.Kinds as drive-kinds
 use Rattle.calls.proofs.drive.Reads as drives
-use Rattle.carry.specs.declared.writer.Packed.{Packed}
-use Rattle.carry.specs.declared.writer.Added.{Added}
+use Rattle.std.specs.Prelude.{Result}
+use Rattle.numbers.specs.declared.Refusal.{Refusal}
+use Rattle.numbers.specs.Refusals.{told}
+use Rattle.carry.specs.declared.call.Place.{Place}
 use Rattle.carry.specs.declared.reader.Record.{Record}
-use Rattle.carry.specs.Writer.{add_call, add_buffer}
+use Rattle.carry.specs.Writer.{as_packed, as_added, add_call, add_buffer}
 use Rattle.carry.specs.Statements as carry
 use Rattle.carry.proofs.writer.pack.Kinds as pack-kinds
 use Rattle.carry.proofs.writer.pack.Reads as packs
@@ -105,17 +107,17 @@ drive_source κs a x e p = ap driving p
 
 -- ---- packed lists
 
-pub pack_source : (κs : Lfts 2) (a : Dens κs pack-kinds.ps) (x : Packed) (e : AtExit (ended_of 2 pack-kinds.ps pack-kinds.r) κs)
-    → packs.Post κs a x e → (x ≡ (carry.ours).packs a.0.now a.1.0.now) × (e.1.0.now ≡ (carry.ours).leaves a.0.now a.1.0.now)
+pub pack_source : (κs : Lfts 2) (a : Dens κs pack-kinds.ps) (x : Result ℕ Refusal) (e : AtExit (ended_of 2 pack-kinds.ps pack-kinds.r) κs)
+    → packs.Post κs a x e → (as_packed x ≡ (carry.ours).packs a.0.now a.1.0.now) × (e.1.0.now ≡ (carry.ours).leaves a.0.now a.1.0.now)
 pack_source κs a x e p = p
 
-pub add_source : (κs : Lfts 1) (a : Dens κs add-kinds.ps) (x : Added) (e : AtExit (ended_of 1 add-kinds.ps add-kinds.r) κs)
+pub add_source : (κs : Lfts 1) (a : Dens κs add-kinds.ps) (x : Result Place Refusal) (e : AtExit (ended_of 1 add-kinds.ps add-kinds.r) κs)
     → adds.Post κs a x e
-    → (x ≡ add_call a.0 (length a.1.0.now) a.1.1.0 a.1.1.1.0) × (e.1.0.now ≡ add_buffer a.0 a.1.0.now a.1.1.0 a.1.1.1.0)
+    → (as_added a.1.1.0 x ≡ add_call a.0 (length a.1.0.now) a.1.1.0.byte a.1.1.0.bit) × (e.1.0.now ≡ add_buffer a.0 a.1.0.now a.1.1.0.byte a.1.1.0.bit)
 add_source κs a x e p = p
 
-pub check_source : (κs : Lfts 1) (a : Dens κs check-kinds.ps) (x : ℕ) (e : AtExit (ended_of 1 check-kinds.ps check-kinds.r) κs)
-    → checks.Post κs a x e → x ≡ (carry.ours).checks a.0.now
+pub check_source : (κs : Lfts 1) (a : Dens κs check-kinds.ps) (x : Result Unit Refusal) (e : AtExit (ended_of 1 check-kinds.ps check-kinds.r) κs)
+    → checks.Post κs a x e → told x ≡ (carry.ours).checks a.0.now
 check_source κs a x e p = p
 
 pub record_source : (κs : Lfts 1) (a : Dens κs record-kinds.ps) (x : Record) (e : AtExit (ended_of 1 record-kinds.ps record-kinds.r) κs)

@@ -3,7 +3,7 @@
 
 ghost use Rattle.std.specs.Prelude.{◌≡◌, ◌≤◌, ◌+◌};
 ghost use Rattle.words.specs.Words.{without};
-ghost use Rattle.flags.specs.Flags.{irqst_of, line, mis_of, ris_of, weigh};
+ghost use Rattle.flags.specs.Flags.{irqst, irqst_of, line, mis, ris, weigh};
 
 use state::Module;
 
@@ -11,10 +11,7 @@ use state::Module;
 fn weigh(flag: bool, weight: u8) -> u8
     ensures { (result ≡ weigh flag weight) × (result ≤ weight) }
 {
-    if flag {
-        return weight;
-    }
-    0
+    u8::from(flag) * weight
 }
 
 // Four flags as the bits 3 to 0 of a byte.
@@ -29,51 +26,45 @@ pub fn cleared(flag: bool, bit: u8, byte: u8) -> bool
     requires { bit ≤ 7 }
     ensures { result ≡ without bit flag byte }
 {
-    if (byte >> bit) % 2 == 1 {
-        return false;
-    }
-    flag
+    flag && (byte >> bit) % 2 == 0
 }
 
-// What KBDRIS reads, by the parts of the state that it shows.
-pub fn ris(relint: bool, count: u8, rklint: bool, rsint: bool) -> u8
-    ensures { result ≡ ris_of relint count rklint rsint }
+// What KBDRIS reads.
+pub fn ris(m: &Module) -> u8
+    ensures { result ≡ ris m.now }
 {
-    byte(relint, 0 < count, rklint, rsint)
+    byte(m.relint, 0 < m.count, m.rklint, m.rsint)
 }
 
-// What KBDMIS reads, by the same parts and the mask.
-pub fn mis(relint: bool, count: u8, rklint: bool, rsint: bool, mask: u8) -> u8
-    ensures { result ≡ mis_of relint count rklint rsint mask }
+// What KBDMIS reads.
+pub fn mis(m: &Module) -> u8
+    ensures { result ≡ mis m.now }
 {
     byte(
-        cleared(relint, 3, mask),
-        cleared(0 < count, 2, mask),
-        cleared(rklint, 1, mask),
-        cleared(rsint, 0, mask),
+        cleared(m.relint, 3, m.mask),
+        cleared(0 < m.count, 2, m.mask),
+        cleared(m.rklint, 1, m.mask),
+        cleared(m.rsint, 0, m.mask),
     )
 }
 
 // Is the interrupt line asserted?
-pub fn line(m: Module) -> bool
-    ensures { result ≡ line m }
+pub fn line(m: &Module) -> bool
+    ensures { result ≡ line m.now }
 {
-    let porirq = m.porirq;
-    if porirq {
-        return true;
-    }
-    if mis(m.relint, m.count, m.rklint, m.rsint, m.mask) != 0 {
-        return true;
-    }
-    let pins = m.pins;
-    let kept = pins.kept;
-    let edge = pins.edge;
-    pins::is_raised(&kept, &edge)
+    m.porirq || mis(m) != 0 || m.pins.is_raised()
 }
 
-// What IRQST reads: PORIRQ, whether KBDMIS isn't 0, and whether an enabled edge of a pin is pending.
-pub fn irqst(porirq: bool, mis: u8, raised: bool) -> u8
+// What IRQST reads, by PORIRQ, KBDMIS, and whether an enabled edge of a pin is pending.
+pub fn irqst_of(porirq: bool, mis: u8, raised: bool) -> u8
     ensures { result ≡ irqst_of porirq mis raised }
 {
     weigh(porirq, 128) + weigh(mis != 0, 64) + weigh(raised, 1)
+}
+
+// What IRQST reads.
+pub fn irqst(m: &Module) -> u8
+    ensures { result ≡ irqst m.now }
+{
+    irqst_of(m.porirq, mis(m), m.pins.is_raised())
 }

@@ -5,9 +5,7 @@
 --    part_of x       the part of the list that x leads to, by its first place and its length
 --    of_walked w     what the walk has handed out
 use Rattle.std.specs.Prelude.{ℕ, ◌-◌}
-use Rattle.undo.specs.declared.Stand.{Stand}
-use Rattle.undo.specs.declared.Stand.TheVariants.{Group, Open, Nothing, Declined}
-use Rattle.undo.specs.declared.Walked.{Walked}
+use Rattle.undo.specs.Answers.{Stand, Group, Open, Nothing, Declined, Walked}
 use Rattle.undo.specs.Stands.{values_of, first_in, end_in}
 use Rattle.groups.specs.declared.Standing.{Standing}
 use Rattle.groups.specs.declared.Part.{Part}

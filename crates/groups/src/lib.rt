@@ -2,14 +2,16 @@
 #![tactic(auto)]
 
 ghost use Rattle.std.specs.Prelude.{◌≡◌, ◌≤◌};
+ghost use Rattle.undo.specs.Answers.{answered};
 ghost use Rattle.undo.specs.Stands.{stands, first_in, end_in};
 ghost use Rattle.undo.specs.Walk.{walk_call, walk_buffer};
 ghost use Rattle.groups.specs.Told.{of_stand, part_of, of_walked};
 
-use numbers::DONE;
-use undo::Stand;
+use numbers::Refusal;
+use undo::{Stand, Walked};
 
 // What stands at a place, as words: C gets four of them, and three too, in memory on every target. Its kind is one of those below.
+// kept: kinds and numbers as words, for the C interface
 #[repr(C)]
 #[derive(Clone, Copy)]
 pub struct Standing {
@@ -50,63 +52,53 @@ pub struct Handed {
 }
 
 // An answer, in words.
-fn standing_of(stand: Stand) -> Standing
-    ensures { result ≡ of_stand stand }
+fn standing_of(answer: Result<Stand, Refusal>) -> Standing
+    ensures { result ≡ of_stand (answered answer) }
 {
+    let none = Standing {
+        number: usize::from(numbers::told(answer)),
+        kind: DECLINED,
+        first: 0,
+        end: 0,
+    };
+    let Ok(stand) = answer else {
+        return none;
+    };
     match stand {
         Stand::Group(first, end) => Standing {
-            number: DONE as usize,
             kind: GROUP,
-            first: first,
-            end: end,
+            first,
+            end,
+            ..none
         },
         Stand::Open(place) => Standing {
-            number: DONE as usize,
             kind: OPEN,
             first: place,
             end: place,
+            ..none
         },
-        Stand::Nothing => Standing {
-            number: DONE as usize,
-            kind: END,
-            first: 0,
-            end: 0,
-        },
-        Stand::Declined(number) => Standing {
-            number: number as usize,
-            kind: DECLINED,
-            first: 0,
-            end: 0,
-        },
+        Stand::Nothing => Standing { kind: END, ..none },
     }
 }
 
 // The part that an answer leads to.
-fn part_of(stand: Stand) -> Part
-    requires { first_in stand ≤ end_in stand }
-    ensures { result ≡ part_of stand }
+fn part_of(answer: Result<Stand, Refusal>) -> Part
+    requires { first_in (answered answer) ≤ end_in (answered answer) }
+    ensures { result ≡ part_of (answered answer) }
 {
-    match stand {
-        Stand::Group(first, end) => Part {
-            number: DONE as usize,
-            first: first,
-            length: end - first,
-        },
-        Stand::Open(_) => Part {
-            number: DONE as usize,
-            first: 0,
-            length: 0,
-        },
-        Stand::Nothing => Part {
-            number: DONE as usize,
-            first: 0,
-            length: 0,
-        },
-        Stand::Declined(number) => Part {
-            number: number as usize,
-            first: 0,
-            length: 0,
-        },
+    let none = Part {
+        number: usize::from(numbers::told(answer)),
+        first: 0,
+        length: 0,
+    };
+    // a question that is declined leads to as much as the end of the list does
+    let Stand::Group(first, end) = answer.unwrap_or(Stand::Nothing) else {
+        return none;
+    };
+    Part {
+        first,
+        length: end - first,
+        ..none
     }
 }
 
@@ -131,10 +123,11 @@ pub extern "C" fn panel_stretch_part(trim: u8, codes: &[u8], place: usize) -> Pa
 pub extern "C" fn panel_groups_value(trim: u8, codes: &[u8], ends: &mut [usize]) -> Handed
     ensures { (result ≡ of_walked (walk_call trim codes.now)) × (ends.new ≡ walk_buffer trim codes.now ends.old) }
 {
-    let r = undo::walk(trim, codes, ends);
+    let handed = undo::walk(trim, codes, ends);
+    let walked = handed.unwrap_or(Walked { groups: 0, tail: 0 });
     Handed {
-        number: r.number as usize,
-        groups: r.groups,
-        tail: r.tail,
+        number: usize::from(numbers::told(handed)),
+        groups: walked.groups,
+        tail: walked.tail,
     }
 }

@@ -1,11 +1,11 @@
 -- Laws of what is judged by a call's arguments alone.
 --
---    high_yes, high_no                  bits 13 to 15, told by one comparison
+--    high_yes, high_no                  bits 13 to 15, told by one comparison; narrow: the same of all samples
 --    fits_size, fits_other              what is asked of a byte for KBDSIZE, and of one for another register
 --    sizes_end, sizes_no, sizes_yes     no byte is left; one is not acceptable; one is, and the rest decides
 --    samples_decline, access_declines   no line gives the number of a call that is done
 --    eight_samples                      a look whose samples are not declined has eight
---    write_access, write_rest           a write is declined as an access, or else by its bytes alone
+--    write_err, write_rest              a write is declined as an access, by what was told of it, or else by its bytes alone
 --    read_allowed                       a read that is not declined may be done at each of its addresses
 --    key_there                          a row and a column that are not declined are those of a key
 -- Assumes nothing.
@@ -13,15 +13,20 @@ use Prim.Native.Nat.{ℕ, ◌+◌, ◌/◌, ◌%◌, ◌≤◌, ◌<◌}
 use native.Mathlib.Numerals.{add-one}
 use native.Mathlib.Omega.{arith}
 use mathlib.Core.Path.{◌≡◌, refl, sym, ap, ◌∙◌}
-use mathlib.Core.Bool.{Bool, true, false, not, ◌||◌}
+use mathlib.Core.Bool.{Bool, true, false, not, ◌||◌, true≢false}
 use mathlib.Core.List.{List, [], ◌∷◌}
 use lib.ListN.{length, get_or, drop, drop_of_length-le}
 use lib.Seq.{drop-cons}
 use lib.Dec.{eqb, ltb}
 use borrow.Author.Tests.{ne_eqb, eqb-true, eqb-false, not-false}
-use Rattle.words.specs.Words.{bit}
-use Rattle.numbers.specs.Numbers.{Line, ◌gives◌, number_of, done, not_eight, no_bytes, too_many, not_allowed, bad_size, no_key}
-use Rattle.numbers.proofs.Laws.{declining, first_decides, rest_decides, line_false}
+use Rattle.std.specs.Bool.{MatchBool}
+use Rattle.std.specs.List.{HoldsAt, AllWithin}
+use Rattle.std.proofs.lemmas.List.Recursion.{and_is}
+use Rattle.words.specs.Words.{all, bit}
+use Rattle.numbers.specs.Numbers.{◌gives◌, number_of, done, not_eight, no_bytes, too_many, not_allowed, bad_size, no_key}
+use Rattle.numbers.proofs.Laws.{declining, line_false, err_first, ok_rest}
+use Rattle.numbers.specs.declared.Refusal.{Refusal}
+use Rattle.numbers.specs.Refusals.{number}
 use Rattle.keys.specs.Keys.{is_key, key_at, acceptable}
 use Rattle.keys.proofs.Laws.{key_row, key_col, key_low}
 use Rattle.registers.specs.declared.Access.{Access}
@@ -57,6 +62,16 @@ module _ (x : ℕ) where
       go false true c ea eb ec = refl
       go false false true ea eb ec = refl
       go false false false ea eb ec = absurd (omega (arith, low13 x (low14 x (low15 x l (eqb-false _ 1 ec)) (eqb-false _ 1 eb)) (eqb-false _ 1 ea)))
+
+-- what `all` answered of a look's samples
+pub narrow : (s : List ℕ) (r : Bool) → ((i : ℕ) → get_or s i 0 < 0x10000)
+    → MatchBool r (AllWithin (λ x. x < 0x2000) s 0 (length s)) ((i : ℕ) × (i < length s) × HoldsAt (λ x. 0x2000 ≤ x) s i)
+    → r ≡ all (λ x. not (high x)) s
+unfolding all
+narrow s true f h =
+    and_is (all (λ x. not (high x))) (λ x. not (high x)) refl (λ _ _. refl) s 0 true (λ _ i l. high_no _ (h i 0 (omega arith) l)) (λ e. absurd (true≢false e))
+narrow s false f h =
+    and_is (all (λ x. not (high x))) (λ x. not (high x)) refl (λ _ _. refl) s 0 false (λ e. absurd (true≢false (sym e))) (λ _. (h.0, h.1, high_yes _ (h.2 0) (f h.0)))
 
 module _ (b : ℕ) where
   pub fits_size : (r : Register) → r ≡ KBDSIZE → byte_fits r b ≡ acceptable b
@@ -110,20 +125,16 @@ eight_samples s e =
     let eight = line_false [] (not (eqb (length s) 8)) not_eight _ (samples_decline s) e in
     eqb-true (length s) 8 (not-false _ eight)
 
-module _ (a : ℕ) (bs : List ℕ) where
-  abbrev first : List Line
-  first = access_lines Write a (length bs)
+-- a write is declined as an access, by what was told of it
+pub write_err : (a : ℕ) (bs : List ℕ) (r : Refusal) → number r ≡ number_of (access_lines Write a (length bs)) → number r ≡ number_of (write_lines a bs)
+unfolding write_lines
+write_err a bs r e = err_first (access_lines Write a (length bs)) (not (sizes_fit a bs) gives bad_size ∷ []) r e
 
-  abbrev last : List Line
-  last = not (sizes_fit a bs) gives bad_size ∷ []
-
-  pub write_access : (number_of first ≡ done → ⊥) → number_of first ≡ number_of (write_lines a bs)
-  unfolding write_lines
-  write_access h = sym (first_decides first last h)
-
-  pub write_rest : number_of first ≡ done → number_of (write_lines a bs) ≡ number_of last
-  unfolding write_lines
-  write_rest h = rest_decides first last (access_declines Write a (length bs)) h
+-- or else by its bytes alone
+pub write_rest : (a : ℕ) (bs : List ℕ) → done ≡ number_of (access_lines Write a (length bs)) → number_of (not (sizes_fit a bs) gives bad_size ∷ []) ≡ number_of (write_lines a bs)
+unfolding write_lines
+write_rest a bs e =
+    ok_rest (access_lines Write a (length bs)) (not (sizes_fit a bs) gives bad_size ∷ []) (access_declines Write a (length bs)) e
 
 -- a read that is not declined may be done at each of its addresses
 pub read_allowed : (a n : ℕ) → number_of (read_lines a n) ≡ done → run_allowed Read a n ≡ true

@@ -6,12 +6,12 @@ ghost use Rattle.keys.specs.Keys.{is_key, key_at, row_of, col_of, press_code, re
 
 // A row, 0 to 7: the data sheet's KEYROW.
 #[repr(C)]
-#[derive(Clone, Copy)]
+#[derive(Clone, Copy, Debug, PartialEq, Eq)]
 pub struct Row(pub u8);
 
 // A column, 0 to 11, or 12 for the row's special function key: the data sheet's KEYCOL.
 #[repr(C)]
-#[derive(Clone, Copy)]
+#[derive(Clone, Copy, Debug, PartialEq, Eq)]
 pub struct Col(pub u8);
 
 pub const ROWS: u8 = 8;
@@ -28,76 +28,79 @@ pub const ROW_KEYS: usize = COLS as usize;
 pub const KEYS: usize = 104;
 
 // The number that stands for no key.
+// kept: a number and no Option: the contracts are equalities with key_at and key_of, of which C and the theorems know 104.
 pub const NO_KEY: usize = KEYS;
 
 // The code that stands for no key.
+// kept: a code and no Option: the data sheet's 7F, which C reads, in the equalities with press_code, release_code and code.
 pub const NO_CODE: u8 = 0x7F;
 
 // Is there such a key?
+#[tactic(auto, unfolding(crate::specs::Keys::is_key))]
 pub fn is_key(row: Row, col: Col) -> bool
     ensures { result ≡ is_key row.0 col.0 }
 {
-    let r = row.0;
-    let c = col.0;
-    if 7 < r {
-        return false;
-    }
-    c <= 12
+    row.0 < ROWS && col.0 < COLS
 }
 
 // The number of a key, by row, then column; NO_KEY if there is none.
+#[tactic(auto, unfolding(crate::specs::Keys::key_at))]
 pub fn key_at(row: Row, col: Col) -> usize
     ensures { result ≡ key_at row.0 col.0 }
 {
-    let r = row.0;
-    let c = col.0;
-    if !is_key(row, col) {
-        return NO_KEY;
+    if is_key(row, col) {
+        ROW_KEYS * usize::from(row.0) + usize::from(col.0)
+    } else {
+        NO_KEY
     }
-    ROW_KEYS * (r as usize) + (c as usize)
 }
 
 // The row of a key; ROWS if there is no such key.
+#[tactic(auto, unfolding(crate::specs::Keys::row_of))]
 pub fn row_of(key: usize) -> Row
     ensures { result.0 ≡ row_of key }
 {
-    if NO_KEY <= key {
-        return Row(ROWS);
+    if key < NO_KEY {
+        Row((key / ROW_KEYS) as u8)
+    } else {
+        Row(ROWS)
     }
-    Row((key / ROW_KEYS) as u8)
 }
 
 // The column of a key; COLS if there is no such key.
+#[tactic(auto, unfolding(crate::specs::Keys::col_of))]
 pub fn col_of(key: usize) -> Col
     ensures { result.0 ≡ col_of key }
 {
-    if NO_KEY <= key {
-        return Col(COLS);
+    if key < NO_KEY {
+        Col((key % ROW_KEYS) as u8)
+    } else {
+        Col(COLS)
     }
-    Col((key % ROW_KEYS) as u8)
 }
 
 // A key's press code; NO_CODE if there is no such key.
+#[tactic(auto, unfolding(crate::specs::Keys::press_code, crate::specs::Keys::is_key))]
 pub fn press_code(row: Row, col: Col) -> u8
     ensures { result ≡ press_code row.0 col.0 }
 {
-    let r = row.0;
-    let c = col.0;
-    if !is_key(row, col) {
-        return NO_CODE;
+    if is_key(row, col) {
+        16 * row.0 + col.0
+    } else {
+        NO_CODE
     }
-    16 * r + c
 }
 
 // A key's release code; NO_CODE if there is no such key.
+#[tactic(auto, unfolding(crate::specs::Keys::release_code, crate::specs::Keys::press_code, crate::specs::Keys::is_key))]
 pub fn release_code(row: Row, col: Col) -> u8
     ensures { result ≡ release_code row.0 col.0 }
 {
-    let press = press_code(row, col);
-    if press == NO_CODE {
-        return NO_CODE;
+    if is_key(row, col) {
+        press_code(row, col) + 128
+    } else {
+        NO_CODE
     }
-    press + 128
 }
 
 // The code of a change of the key there: its contact closed, or it opened. NO_CODE if there is no such key.
@@ -105,12 +108,14 @@ pub fn code_at(row: Row, col: Col, closed: bool) -> u8
     ensures { result ≡ code_at row.0 col.0 closed }
 {
     if closed {
-        return press_code(row, col);
+        press_code(row, col)
+    } else {
+        release_code(row, col)
     }
-    release_code(row, col)
 }
 
 // The code of a key's change.
+#[tactic(auto, unfolding(crate::specs::Keys::code))]
 pub fn change_code(key: usize, closed: bool) -> u8
     ensures { result ≡ code key closed }
 {
@@ -118,13 +123,15 @@ pub fn change_code(key: usize, closed: bool) -> u8
 }
 
 // Is a byte the press or release code of a key?
+#[tactic(auto, unfolding(crate::specs::Keys::is_code, crate::specs::Keys::is_key))]
 pub fn is_code(byte: u8) -> bool
     ensures { result ≡ is_code byte }
 {
-    byte % 16 <= 12
+    byte % 16 < COLS
 }
 
 // The key that a press or release code speaks of; NO_KEY if it is no code.
+#[tactic(auto, unfolding(crate::specs::Keys::key_of))]
 pub fn key_of(byte: u8) -> usize
     ensures { result ≡ key_of byte }
 {
@@ -132,39 +139,23 @@ pub fn key_of(byte: u8) -> usize
 }
 
 // May KBDSIZE hold this byte?
+#[tactic(auto, unfolding(crate::specs::Keys::acceptable))]
 pub fn is_acceptable(size: u8) -> bool
     ensures { result ≡ acceptable size }
 {
-    let rows = size / 16;
-    let cols = size % 16;
-    if rows < 2 {
-        return false;
-    }
-    if 8 < rows {
-        return false;
-    }
-    if cols < 2 {
-        return false;
-    }
-    cols <= 12
+    matches!(size / 16, 2..=8) && matches!(size % 16, 2..=12)
 }
 
 // Is a key in the size?
+#[tactic(auto, unfolding(crate::specs::Keys::in_size))]
 pub fn is_in_size(size: u8, row: Row, col: Col) -> bool
     ensures { result ≡ in_size size row.0 col.0 }
 {
-    let r = row.0;
-    let c = col.0;
-    if size / 16 <= r {
-        return false;
-    }
-    if c < size % 16 {
-        return true;
-    }
-    c == 12
+    row.0 < size / 16 && (col.0 < size % 16 || col.0 == SPECIAL)
 }
 
 // Is the key with this number in the size?
+#[tactic(auto, unfolding(crate::specs::Keys::key_in))]
 pub fn is_key_in(size: u8, key: usize) -> bool
     ensures { result ≡ key_in size key }
 {
@@ -172,6 +163,7 @@ pub fn is_key_in(size: u8, key: usize) -> bool
 }
 
 // Is a byte a press or release code of a key in the size? Its low four bits are the column, the next three the row.
+#[tactic(auto, using(crate::proofs::Laws::code_in))]
 pub fn is_code_in(size: u8, byte: u8) -> bool
     requires { acceptable size ≡ true }
     ensures { result ≡ key_in size (key_of byte) }

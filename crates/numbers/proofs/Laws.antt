@@ -6,15 +6,23 @@
 --    first_decides, rest_decides    of two lists the first declines the call; it passes the call on, and the rest decides
 --    line_false                     a call that is done has passed each of its lines
 --    lacks k l                      k is the number of no line of the list l, nor that of a call that is done; never-given: so they don't give it
+--    refused, told_done             no refusal's number is that of a call that is done; a call that is told of as done was
+--    number_one, told_one           two refusals have two numbers; two outcomes of a call, told of by one number, are one
+--    err_first, ok_rest             of two lists the first declines the call, if what was told of it is a refusal; else the rest decides
 -- Assumes nothing.
 use Prim.Native.Nat.{ℕ}
-use mathlib.Core.Path.{◌≡◌, refl}
+use mathlib.Core.Path.{◌≡◌, refl, sym, ap, ◌∙◌}
 use mathlib.Core.Logic.{inl, inr}
 use mathlib.Core.Bool.{Bool, true, false, not, ◌&&◌, true≢false, false≢true, and-eq-true_iff}
 use mathlib.Core.List.{List, [], ◌∷◌, ◌++◌}
 use borrow.Author.Tests.{eqb-false, not-true}
 use lib.Dec.{eqb}
+use lib.ListN.{get_or}
+use Rattle.std.specs.Prelude.{Result, Ok, Err}
 use Rattle.numbers.specs.Numbers.{Line, ◌gives◌, number_of, Given, done}
+use Rattle.numbers.specs.declared.Refusal.{Refusal}
+use Rattle.numbers.specs.declared.Refusal.TheVariants.{NotEight, HighBits, NoBytes, TooMany, NotAllowed, BadSize, NoKey, Unsound, CutShort, NoRoom, BeyondEnd, BadCode, BadChange, InsideGroup, BadPins, Asleep}
+use Rattle.numbers.specs.Refusals.{number, told}
 
 -- the number is given
 pub given : (l : List Line) → Given l (number_of l)
@@ -100,3 +108,70 @@ unfolding lacks number_of
 never_given k [] h e = eqb-false done k (not-true (eqb done k) h) e
 never_given k ((true gives n) ∷ l) h e = eqb-false n k (not-true (eqb n k) ((and-eq-true_iff (not (eqb n k)) (lacks k l)).0 h).0) e
 never_given k ((false gives n) ∷ l) h e = never_given k l ((and-eq-true_iff (not (eqb n k)) (lacks k l)).0 h).1 e
+
+-- no refusal has the number of a call that is done
+pub refused : (r : Refusal) → number r ≡ done → ⊥
+refused NotEight e = cc
+refused HighBits e = cc
+refused NoBytes e = cc
+refused TooMany e = cc
+refused NotAllowed e = cc
+refused BadSize e = cc
+refused NoKey e = cc
+refused Unsound e = cc
+refused CutShort e = cc
+refused NoRoom e = cc
+refused BeyondEnd e = cc
+refused BadCode e = cc
+refused BadChange e = cc
+refused InsideGroup e = cc
+refused BadPins e = cc
+refused Asleep e = cc
+
+-- a call that is told of as done was done
+pub told_done : (x : Result Unit Refusal) → told x ≡ done → x ≡ Ok tt
+told_done (Ok tt) e = refl
+told_done (Err r) e = absurd (refused r e)
+
+-- the refusals by their numbers; where there is none, the first stands for it
+numbered : List Refusal
+numbered =
+    NotEight ∷ NotEight ∷ HighBits ∷ NoBytes ∷ TooMany ∷ NotAllowed ∷ BadSize ∷ NoKey ∷ Unsound
+    ∷ NotEight ∷ NotEight ∷ NotEight ∷ NotEight ∷ NotEight ∷ NotEight ∷ NotEight ∷ NotEight ∷ NotEight ∷ NotEight ∷ NotEight
+    ∷ CutShort ∷ NoRoom ∷ BeyondEnd ∷ BadCode ∷ BadChange ∷ InsideGroup ∷ BadPins ∷ Asleep ∷ []
+
+number_back : (r : Refusal) → get_or numbered (number r) NotEight ≡ r
+unfolding numbered
+number_back NotEight = refl
+number_back HighBits = refl
+number_back NoBytes = refl
+number_back TooMany = refl
+number_back NotAllowed = refl
+number_back BadSize = refl
+number_back NoKey = refl
+number_back Unsound = refl
+number_back CutShort = refl
+number_back NoRoom = refl
+number_back BeyondEnd = refl
+number_back BadCode = refl
+number_back BadChange = refl
+number_back InsideGroup = refl
+number_back BadPins = refl
+number_back Asleep = refl
+
+-- two refusals have two numbers
+pub number_one : (r s : Refusal) → number r ≡ number s → r ≡ s
+number_one r s e = sym (number_back r) ∙ ap (λ (n : ℕ). get_or numbered n NotEight) e ∙ number_back s
+
+-- two outcomes that are told of by one number are one
+pub told_one : (x y : Result Unit Refusal) → told x ≡ told y → x ≡ y
+told_one (Ok tt) y e = sym (told_done y (sym e))
+told_one (Err r) (Ok tt) e = absurd (refused r e)
+told_one (Err r) (Err s) e = ap Err (number_one r s e)
+
+-- of two lists the first declines the call, by what was told of it; else the rest decides
+pub err_first : (k l : List Line) (r : Refusal) → number r ≡ number_of k → number r ≡ number_of (k ++ l)
+err_first k l r e = e ∙ sym (first_decides k l (λ z. refused r (e ∙ z)))
+
+pub ok_rest : (k l : List Line) → declining k ≡ true → done ≡ number_of k → number_of l ≡ number_of (k ++ l)
+ok_rest k l d e = sym (rest_decides k l d (sym e))

@@ -19,10 +19,7 @@ use Rattle.state.specs.declared.Module.{Module}
 use Rattle.calls.specs.Calls.{look_call, write_call, read_call, read_buffer, held_call, interrupt_call, pins_call, drive_call}
 use Rattle.calls.specs.Blocks.{looks_call}
 use Rattle.wire.specs.declared.Wire.{Wire}
-use Rattle.wire.specs.declared.Begun.{Begun}
-use Rattle.wire.specs.declared.Ended.{Ended}
-use Rattle.wire.specs.declared.Kept.{Kept}
-use Rattle.wire.specs.declared.Handed.{Handed}
+use Rattle.wire.specs.Wire.{Begun, Ended, Kept, Handed}
 
 abbrev pub LookLent : Module → List ℕ → ℕ → Module → Type 0
 LookLent m s number after = (number ≡ (look_call m s).number) × (after ≡ (look_call m s).after)

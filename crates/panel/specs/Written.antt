@@ -2,8 +2,7 @@
 --
 --    of_packed p    a whole list was: its length in bytes, and the number
 --    of_added a     one call more was: the place behind its record, in bytes and bits more, and the number
-use Rattle.carry.specs.declared.writer.Packed.{Packed}
-use Rattle.carry.specs.declared.writer.Added.{Added}
+use Rattle.carry.specs.Writer.{Packed, Added}
 use Rattle.panel.specs.declared.Written.{Written}
 
 unfoldable pub of_packed : Packed → Written

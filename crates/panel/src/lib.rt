@@ -11,19 +11,21 @@ ghost use Rattle.panel.specs.Lent.{LookLent, LooksLent, WriteLent, ReadLent, Hel
 ghost use Rattle.panel.specs.Written.{of_packed, of_added};
 
 use calls::Done;
+use calls::lent::{self, Levels};
+use carry::call::Place;
 use carry::reader::Record;
 use keys::{Col, Row};
 use state::Module;
 use wire::Wire;
+
+// kept: the C interface: a function for each name in include/panel.h, and numbers for refusals.
 
 // One look; the module is altered where it is.
 #[unsafe(no_mangle)]
 pub extern "C" fn panel_look(m: &mut Module, samples: &[u16]) -> u8
     ensures { LookLent m.old samples.now result m.new }
 {
-    let r = calls::look(*m, samples);
-    *m = r.after;
-    r.number
+    numbers::told(lent::look(m, samples))
 }
 
 // Several looks; the module is altered where it is, and how many were done is written where it is lent.
@@ -31,10 +33,9 @@ pub extern "C" fn panel_look(m: &mut Module, samples: &[u16]) -> u8
 pub extern "C" fn panel_looks(m: &mut Module, samples: &[u16], done: &mut usize) -> u8
     ensures { LooksLent m.old samples.now result m.new done.new }
 {
-    let r = calls::looks(*m, samples);
-    *m = r.after;
-    *done = r.done;
-    r.number
+    let made = lent::looks(m, samples);
+    *done = made.done;
+    numbers::told(made.outcome)
 }
 
 // A write access; the module is altered where it is.
@@ -42,9 +43,7 @@ pub extern "C" fn panel_looks(m: &mut Module, samples: &[u16], done: &mut usize)
 pub extern "C" fn panel_write(m: &mut Module, first: u8, bytes: &[u8]) -> u8
     ensures { WriteLent m.old first bytes.now result m.new }
 {
-    let r = calls::write(*m, first, bytes);
-    *m = r.after;
-    r.number
+    numbers::told(lent::write(m, first, bytes))
 }
 
 // A read access; the module is altered where it is, and the caller's buffer is filled.
@@ -52,9 +51,7 @@ pub extern "C" fn panel_write(m: &mut Module, first: u8, bytes: &[u8]) -> u8
 pub extern "C" fn panel_read(m: &mut Module, first: u8, out: &mut [u8]) -> u8
     ensures { ReadLent m.old first out.old result m.new out.new }
 {
-    let r = calls::read(*m, first, out);
-    *m = r.after;
-    r.number
+    numbers::told(lent::read(m, first, out))
 }
 
 // Reset, by value: C's memory may hold anything before it.
@@ -70,9 +67,9 @@ pub extern "C" fn panel_reset_value() -> Done
 pub extern "C" fn panel_held(m: &Module, row: Row, col: Col, yes: &mut bool) -> u8
     ensures { HeldLent m.now row.0 col.0 result yes.new }
 {
-    let r = calls::held(*m, row, col);
-    *yes = r.yes;
-    r.number
+    let answer = lent::held(m, row, col);
+    *yes = answer.unwrap_or(false);
+    numbers::told(answer)
 }
 
 // Is the interrupt line asserted? The module is lent to be looked at only.
@@ -80,9 +77,9 @@ pub extern "C" fn panel_held(m: &Module, row: Row, col: Col, yes: &mut bool) -> 
 pub extern "C" fn panel_interrupt(m: &Module, yes: &mut bool) -> u8
     ensures { InterruptLent m.now result yes.new }
 {
-    let r = calls::interrupt(*m);
-    *yes = r.yes;
-    r.number
+    let answer = lent::interrupt(m);
+    *yes = answer.unwrap_or(false);
+    numbers::told(answer)
 }
 
 // The pins are sampled, bit i for pin i; the module is altered where it is.
@@ -90,9 +87,7 @@ pub extern "C" fn panel_interrupt(m: &Module, yes: &mut bool) -> u8
 pub extern "C" fn panel_pins(m: &mut Module, samples: u32) -> u8
     ensures { PinsLent m.old samples result m.new }
 {
-    let r = calls::pins(*m, samples);
-    *m = r.after;
-    r.number
+    numbers::told(lent::pins(m, samples))
 }
 
 // Which pins are driven, and to what level? The module is lent to be looked at only.
@@ -100,10 +95,11 @@ pub extern "C" fn panel_pins(m: &mut Module, samples: u32) -> u8
 pub extern "C" fn panel_drive(m: &Module, driven: &mut u32, level: &mut u32) -> u8
     ensures { DriveLent m.now result driven.new level.new }
 {
-    let r = calls::drive(*m);
-    *driven = r.driven;
-    *level = r.level;
-    r.number
+    let answer = lent::drive(m);
+    let levels = answer.unwrap_or(Levels::NONE);
+    *driven = levels.driven;
+    *level = levels.level;
+    numbers::told(answer)
 }
 
 // The host begins a read on the bus; the module is lent to be looked at only, and the wire is altered where it is.
@@ -111,9 +107,7 @@ pub extern "C" fn panel_drive(m: &Module, driven: &mut u32, level: &mut u32) -> 
 pub extern "C" fn panel_wire_ahead(m: &Module, w: &mut Wire) -> u8
     ensures { BegunLent (begin_read m.now w.old) result w.new }
 {
-    let r = wire::begin_read(*m, *w);
-    *w = r.wire;
-    r.number
+    numbers::told(wire::begin_read(m, w))
 }
 
 // The host begins a write on the bus.
@@ -121,9 +115,7 @@ pub extern "C" fn panel_wire_ahead(m: &Module, w: &mut Wire) -> u8
 pub extern "C" fn panel_wire_listens(m: &Module, w: &mut Wire) -> u8
     ensures { BegunLent (begin_write m.now w.old) result w.new }
 {
-    let r = wire::begin_write(*m, *w);
-    *w = r.wire;
-    r.number
+    numbers::told(wire::begin_write(m, w))
 }
 
 // A byte came from the host; the wire is altered where it is.
@@ -131,9 +123,7 @@ pub extern "C" fn panel_wire_listens(m: &Module, w: &mut Wire) -> u8
 pub extern "C" fn panel_wire_takes(w: &mut Wire, byte: u8) -> bool
     ensures { KeptLent (take_byte w.old byte) result w.new }
 {
-    let r = wire::take_byte(*w, byte);
-    *w = r.wire;
-    r.yes
+    wire::take_byte(w, byte)
 }
 
 // The bus asks for a byte; the wire is altered where it is.
@@ -141,9 +131,7 @@ pub extern "C" fn panel_wire_takes(w: &mut Wire, byte: u8) -> bool
 pub extern "C" fn panel_wire_gives(w: &mut Wire) -> u8
     ensures { HandedLent (next_byte w.old) result w.new }
 {
-    let r = wire::next_byte(*w);
-    *w = r.wire;
-    r.byte
+    wire::next_byte(w)
 }
 
 // The transfer stops, so many bytes of a read having been sent: how many bytes its access has. The module is lent to be looked at only.
@@ -151,9 +139,7 @@ pub extern "C" fn panel_wire_gives(w: &mut Wire) -> u8
 pub extern "C" fn panel_wire_ends(m: &Module, w: &mut Wire, sent: u32) -> u8
     ensures { EndedLent (stop m.now w.old sent) result w.new }
 {
-    let r = wire::stop(*m, *w, sent);
-    *w = r.wire;
-    r.count
+    wire::stop(m, w, sent)
 }
 
 // The transfer is dropped; the wire is altered where it is.
@@ -161,12 +147,10 @@ pub extern "C" fn panel_wire_ends(m: &Module, w: &mut Wire, sent: u32) -> u8
 pub extern "C" fn panel_wire_drops(w: &mut Wire) -> bool
     ensures { KeptLent (drop_open w.old) result w.new }
 {
-    let r = wire::drop_open(*w);
-    *w = r.wire;
-    r.yes
+    wire::drop_open(w)
 }
 
-// How far a list is written: bytes, bits more, and the call's number. Three words, so that C gets it in memory on every target.
+// How far a list is written: bytes, bits more, and the call's number. Three words, so that C gets it in memory on every target. kept: the C interface.
 #[repr(C)]
 #[derive(Clone, Copy)]
 pub struct Written {
@@ -180,11 +164,11 @@ pub struct Written {
 pub extern "C" fn panel_pack_numbers(calls: &[u16], out: &mut [u8]) -> Written
     ensures { (result ≡ of_packed (pack_call calls.now (length out.old))) × (out.new ≡ pack_buffer calls.now out.old) }
 {
-    let r = carry::writer::pack(calls, out);
+    let length = carry::writer::pack(calls, out);
     Written {
-        byte: r.length,
+        byte: length.unwrap_or(0),
         bit: 0,
-        number: r.number as usize,
+        number: usize::from(numbers::told(length)),
     }
 }
 
@@ -198,11 +182,13 @@ pub extern "C" fn panel_add_numbers(
 ) -> Written
     ensures { (result ≡ of_added (add_call (call_at call.now 0) (length out.old) byte bit)) × (out.new ≡ add_buffer (call_at call.now 0) out.old byte bit) }
 {
-    let r = carry::writer::add(carry::call::call_at(call, 0), out, byte, bit);
+    let place = Place { byte, bit };
+    let behind = carry::writer::add(carry::call::call_at(call, 0), out, place);
+    let at = behind.unwrap_or(place);
     Written {
-        byte: r.byte,
-        bit: r.bit as usize,
-        number: r.number as usize,
+        byte: at.byte,
+        bit: usize::from(at.bit),
+        number: usize::from(numbers::told(behind)),
     }
 }
 

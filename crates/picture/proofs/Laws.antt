@@ -1,16 +1,17 @@
 -- Laws of the picture.
 --
 --    nth_first, nth_later                 what a register shows of given codes
---    read_first, read_second, read_third, read_last   the marks, looked at one by one
+--    read_in_turn                         the marks, looked at one after the other
 --    marked_all, marked_some              the fourth mark is set, and one before it
 -- Assumes nothing.
 use Prim.Native.Nat.{ℕ, zero, suc, ◌+◌, ◌-◌, ◌≤◌, ◌<◌}
 use native.Mathlib.Numerals.{sub-one}
 use native.Mathlib.Omega.{arith}
-use mathlib.Core.Path.{◌≡◌, refl}
-use mathlib.Core.Bool.{Bool, true, false}
+use mathlib.Core.Path.{◌≡◌, refl, sym}
+use mathlib.Core.Bool.{Bool, true, false, ◌&&◌}
 use mathlib.Core.List.{List, ◌∷◌}
 use lib.ListN.{get_or, set}
+use Rattle.std.proofs.Math.Bool.{and_assoc}
 use Rattle.state.specs.declared.Module.{Module}
 use Rattle.state.specs.Module.{forgotten, with_rsint, with_seen}
 use Rattle.picture.specs.Picture.{more, nth, all_read, marked}
@@ -25,22 +26,9 @@ unfolding nth
 nth_later zero c cs h = absurd (omega arith)
 nth_later (suc n) c cs h = simp sub-one
 
-module _ (seen : List Bool) where
-  pub read_first : get_or seen 0 false ≡ false → all_read seen ≡ false
-  unfolding all_read
-  read_first e = rw e
-
-  pub read_second : get_or seen 0 false ≡ true → get_or seen 1 false ≡ false → all_read seen ≡ false
-  unfolding all_read
-  read_second e f = rw (e, f)
-
-  pub read_third : get_or seen 0 false ≡ true → get_or seen 1 false ≡ true → get_or seen 2 false ≡ false → all_read seen ≡ false
-  unfolding all_read
-  read_third e f g = rw (e, f, g)
-
-  pub read_last : get_or seen 0 false ≡ true → get_or seen 1 false ≡ true → get_or seen 2 false ≡ true → all_read seen ≡ get_or seen 3 false
-  unfolding all_read
-  read_last e f g = rw (e, f, g)
+pub read_in_turn : (seen : List Bool) → all_read seen ≡ (get_or seen 0 false && get_or seen 1 false && get_or seen 2 false && get_or seen 3 false)
+unfolding all_read
+read_in_turn seen = sym (and_assoc (get_or seen 0 false && get_or seen 1 false) (get_or seen 2 false) (get_or seen 3 false))
 
 module _ (m : Module) (n : ℕ) where
   pub marked_all : all_read (set m.seen n true) ≡ true → marked m n ≡ with_seen (with_rsint m false) forgotten

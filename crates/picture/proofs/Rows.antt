@@ -2,9 +2,9 @@
 --
 --    mask_of_row                          bit c of a row's mask is 1 exactly if the key in column c of that row is held
 --    digit_low                            a bool as a number
---    mask_from hs row col                  the mask of a row's keys from a column on, col being bit 0
---    row_left, row_next, row_whole        of it: no key is left, one more, all of them
---    row_below                            it has at most 13 bits
+--    MaskFrom keys left mask              the mask of the keys behind those that are left
+--    mask_none, mask_next, mask_whole     of it: all are left, one less, none
+--    mask_low                             it has at most 13 bits
 --    codes_none, codes_first              the codes of a mask: of 0, and of any other, the first before the rest
 --    first_place, first_in_lem                the first key's place, and its weight
 --    rows_from                            the codes from a row on, by its mask and by those behind it
@@ -21,9 +21,9 @@ use native.Mathlib.Decide.{dec_lt}
 use native.Mathlib.Omega.{arith}
 use mathlib.Core.Path.{◌≡◌, refl, sym, ap, ◌∙◌}
 use mathlib.Core.Bool.{Bool, true, false}
-use mathlib.Core.List.{List, [], ◌∷◌, ◌++◌}
+use mathlib.Core.List.{List, [], ◌∷◌, ◌++◌, append-nil, append_assoc}
 use lib.ListN.{length, get_or, take, drop, length-take, length-drop, take-append-drop, get_or-eq_default, drop_of_length-le}
-use lib.Seq.{drop-cons, get_or-take, get_or-drop, drop-drop}
+use lib.Seq.{drop-cons, get_or-take, get_or-drop, drop-drop, drop-append_seam}
 use lib.Count.{count_trailing_zeros}
 use lib.Dec.{eqb}
 use mir.Val.{bool_byte}
@@ -42,13 +42,6 @@ pub mask_of_row : (hs : List Bool) (row c : ℕ) → c < 13 → bit c (mask_at h
 unfolding mask_at
 mask_of_row hs row c h = binary_bit (take 13 (drop (13 * row) hs)) c ∙ get_or-take 13 (drop (13 * row) hs) c false h ∙ get_or-drop (13 * row) hs c false
 
-take_below : (k : ℕ) (l : List Bool) → k ≤ 13 → binary (take k l) < 8192
-take_below k l h =
-    let few : length (take k l) ≤ 13 = rw (length-take k l) (omega arith) in
-    let most : 2 ^ length (take k l) ≤ 2 ^ 13 = pow-le-pow_right (omega arith) few in
-    let low = binary_below (take k l) in
-    omega arith
-
 -- a bool as a number, as the code has it
 digit_is : (b : Bool) → bool_byte b ≡ (1 if b else 0)
 digit_is true = refl
@@ -58,30 +51,37 @@ pub digit_low : (b : Bool) → bool_byte b ≤ 1
 digit_low true = omega arith
 digit_low false = omega arith
 
--- the mask of a row's keys from a column on
-abbrev pub mask_from : List Bool → ℕ → ℕ → ℕ
-mask_from hs row col = binary (take (13 - col) (drop (13 * row + col) hs))
+-- keys, of which these are left, and the mask of those behind them
+pub record MaskFrom (keys left : List Bool) (mask : ℕ) : Type 0 where
+  pub behind : left ++ drop (length left) keys ≡ keys
+  pub is : mask ≡ binary (drop (length left) keys)
 
-module _ (hs : List Bool) (row : ℕ) where
-  pub row_left : mask_from hs row 13 ≡ 0
+module _ (keys : List Bool) where
+  pub mask_none : (left : List Bool) → left ≡ keys → MaskFrom keys left 0
   unfolding binary
-  row_left = refl
+  mask_none left e = let f : drop (length keys) keys ≡ [] = drop_of_length-le keys (omega arith) in record { behind = rw (e, f, append-nil keys); is = rw (e, f) }
 
-  pub row_whole : mask_from hs row 0 ≡ mask_at hs row
-  unfolding mask_at
-  row_whole = let e : 13 * row + 0 ≡ 13 * row = omega arith in rw e
+  pub mask_low : (left : List Bool) (mask : ℕ) → length keys ≤ 13 → MaskFrom keys left mask → mask < 8192
+  mask_low left mask few h =
+      let rest = drop (length left) keys in
+      let n : length rest ≤ 13 = rw (length-drop (length left) keys) (omega arith) in
+      let most : 2 ^ length rest ≤ 2 ^ 13 = pow-le-pow_right (omega arith) n in
+      let low = binary_below rest in
+      omega (arith, h.is)
 
-  pub row_below : (col : ℕ) → mask_from hs row col < 8192
-  row_below col = take_below (13 - col) (drop (13 * row + col) hs) (omega arith)
-
-  pub row_next : (col mask : ℕ) → length hs ≡ 104 → row < 8 → 0 < col → col ≤ 13 → mask ≡ mask_from hs row col
-      → bool_byte (get_or hs (13 * row + (col - 1)) false) + 2 * mask ≡ mask_from hs row (col - 1)
+  pub mask_next : (left less : List Bool) (one : Bool) (mask : ℕ) → left ≡ less ++ (one ∷ []) → MaskFrom keys left mask → MaskFrom keys less (bool_byte one + 2 * mask)
   unfolding binary
-  row_next col mask long h k l m =
-      let at = 13 * row + (col - 1) in
-      let e : 13 - (col - 1) ≡ suc (13 - col) = omega arith in
-      let f : suc at ≡ 13 * row + col = omega arith in
-      rw (e, drop-cons hs at false (omega (arith, long)), f, m, digit_is (get_or hs at false))
+  mask_next left less one mask e h =
+      let rest = drop (length left) keys in
+      let f : less ++ (one ∷ rest) ≡ keys = sym (append_assoc less (one ∷ []) rest) ∙ ap (λ (l : List Bool). l ++ rest) (sym e) ∙ h.behind in
+      let g : drop (length less) keys ≡ one ∷ rest = ap (drop (length less)) (sym f) ∙ drop-append_seam less (one ∷ rest) in
+      record {
+        behind = rw g f;
+        is = rw (g, h.is, digit_is one);
+      }
+
+  pub mask_whole : (left : List Bool) (mask : ℕ) → length left ≡ 0 → MaskFrom keys left mask → mask ≡ binary keys
+  mask_whole left mask e h = h.is ∙ ap (λ (n : ℕ). binary (drop n keys)) e
 
 -- the codes of a mask
 pub codes_none : (c w : ℕ) → codes_in c w 0 ≡ []

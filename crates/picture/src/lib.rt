@@ -2,12 +2,11 @@
 #![tactic(auto)]
 
 ghost use Rattle.std.specs.Prelude.{◌≡◌, true, length, get_or, set, drop, ◌+◌, ◌*◌, ◌≤◌, ◌<◌};
-ghost use Rattle.state.specs.declared.Module.{Module};
-ghost use Rattle.state.specs.Module.{with_rsint, with_seen};
 ghost use Rattle.picture.specs.Picture.{all_read, held_codes, marked, more, nth, picture};
 ghost use Rattle.picture.specs.Masks.{mask_at, masks, first_of, but_first, by_masks, codes_from};
 
 use keys::{KEYS, ROW_KEYS};
+use state::Module;
 
 // A mask for each row.
 pub const MASKS: usize = keys::ROWS as usize;
@@ -16,45 +15,30 @@ pub const MASKS: usize = keys::ROWS as usize;
 pub fn all_read(seen: [bool; 4]) -> bool
     ensures { result ≡ all_read seen }
 {
-    if !seen[0] {
-        return false;
-    }
-    if !seen[1] {
-        return false;
-    }
-    if !seen[2] {
-        return false;
-    }
-    seen[3]
+    seen[0] && seen[1] && seen[2] && seen[3]
 }
 
 // The marks with register n's set.
-fn with_mark(seen: [bool; 4], n: u8) -> [bool; 4]
+fn with_mark(mut seen: [bool; 4], n: u8) -> [bool; 4]
     ensures { result ≡ set seen n true }
 {
-    let at = n as usize;
-    if at < 4 {
-        let mut marks = seen;
-        marks[at] = true;
-        return marks;
+    if n < 4 {
+        seen[n as usize] = true;
     }
     seen
 }
 
 // Picture register n has been read: it is marked; once all four are, RSINT is cleared and they are forgotten.
-pub fn mark(rsint: &mut bool, seen: &mut [bool; 4], n: u8)
-    ensures { (m : Module) →
-        with_seen (with_rsint m rsint.new) seen.new
-        ≡ marked (with_seen (with_rsint m rsint.old) seen.old) n }
+pub fn mark(m: &mut Module, n: u8)
+    ensures { m.new ≡ marked m.old n }
 {
-    let old = *seen;
-    let marks = with_mark(old, n);
+    let marks = with_mark(m.seen, n);
     if all_read(marks) {
-        *rsint = false;
-        *seen = [false; 4];
-        return;
+        m.rsint = false;
+        m.seen = [false; 4];
+    } else {
+        m.seen = marks;
     }
-    *seen = marks;
 }
 
 // A row's keys that are held, as a number: bit c is 1 if the key in column c is.
@@ -64,10 +48,8 @@ fn mask_of_row(table: &[bool], row: usize) -> u16
 {
     let first = ROW_KEYS * row;
     let mut mask: u16 = 0;
-    let mut col = ROW_KEYS;
-    while 0 < col {
-        col = col - 1;
-        mask = (table[first + col] as u16) + 2 * mask;
+    for held in table[first..first + ROW_KEYS].iter().rev() {
+        mask = u16::from(*held) + 2 * mask;
     }
     mask
 }
@@ -78,6 +60,7 @@ pub fn masks(held: &[bool; KEYS]) -> [u16; MASKS]
 {
     // a slice's length is known
     let table: &[bool] = held;
+    // kept: filled by a loop, the compiler makes vector code of it, larger and slower
     [
         mask_of_row(table, 0),
         mask_of_row(table, 1),
@@ -94,10 +77,7 @@ pub fn masks(held: &[bool; KEYS]) -> [u16; MASKS]
 fn mask_at(rows: &[u16], row: usize) -> u16
     ensures { result ≡ get_or rows.now row 0 }
 {
-    if row < rows.len() {
-        return rows[row];
-    }
-    0
+    rows.get(row).copied().unwrap_or(0)
 }
 
 // A mask without its first key.
@@ -105,19 +85,17 @@ fn but_first(mask: u16) -> u16
     requires { 1 ≤ mask }
     ensures { result ≡ but_first mask }
 {
-    mask - (1 << u16::trailing_zeros(mask))
+    mask - (1 << mask.trailing_zeros())
 }
 
 // Is a key of the rows from this one on held? 128 if one is, else 0.
 fn more(rows: &[u16], from: usize) -> u8
     ensures { (result ≡ more (by_masks from (drop from rows.now))) × (result ≤ 128) }
 {
-    let mut row = from;
-    while row < rows.len() {
-        if 0 < mask_at(rows, row) {
+    for row in from..rows.len() {
+        if 0 < rows[row] {
             return 128;
         }
-        row = row + 1;
     }
     0
 }
@@ -127,11 +105,12 @@ fn first_code(rows: &[u16], row: usize, mask: u16) -> u8
     requires { (row < 8) × (1 ≤ mask) }
     ensures { result ≡ 16 * row + first_of mask + more (codes_from rows.now row (but_first mask)) }
 {
-    let code = 16 * (row as u8) + (u16::trailing_zeros(mask) as u8);
+    let code = 16 * (row as u8) + (mask.trailing_zeros() as u8);
     if 0 < but_first(mask) {
-        return code + 128;
+        code + 128
+    } else {
+        code + more(rows, row + 1)
     }
-    code + more(rows, row + 1)
 }
 
 // What picture register n shows of rows with these masks. A row where no key is left is passed over.
@@ -142,16 +121,16 @@ fn shown_of(rows: &[u16], n: u8) -> u8
     let mut row: usize = 0;
     let mut mask = mask_at(rows, 0);
     let mut rest = n;
+    // kept: a walk with jumps, which passes over a key or over what is left of a row
     while row < MASKS {
         if mask < 1 {
-            row = row + 1;
+            row += 1;
             mask = mask_at(rows, row);
+        } else if rest < 1 {
+            return first_code(rows, row, mask);
         } else {
-            if rest < 1 {
-                return first_code(rows, row, mask);
-            }
             mask = but_first(mask);
-            rest = rest - 1;
+            rest -= 1;
         }
     }
     keys::NO_CODE

@@ -12,7 +12,10 @@ pub const PINS: usize = 19;
 // How many register bytes are kept.
 pub const KEPT: usize = 33;
 
-// The place among them of the first register of a bank.
+// The pins' numbers end here.
+const END: u8 = PINS as u8;
+
+// The place among the kept bytes of the first register of a bank.
 const DATA: usize = 6;
 
 const MASK: usize = 7;
@@ -31,6 +34,9 @@ const OME: usize = 27;
 
 const OMS: usize = 28;
 
+// How many places lie from a register of a bank to its next, where those of another bank lie in between.
+const PAIRED: usize = 2;
+
 // The pins' part of the module state.
 #[repr(C)]
 #[derive(Clone, Copy)]
@@ -46,7 +52,8 @@ pub struct Pins {
 }
 
 // What a word of bits tells of each pin.
-#[derive(Clone, Copy)]
+// kept: closures would be chosen by the same match, and read no plainer.
+#[derive(Clone, Copy, Debug, PartialEq, Eq)]
 pub enum What {
     Data,
     Raw,
@@ -74,333 +81,32 @@ pub fn fresh() -> Pins
 pub fn is_within(first: u16, last: u16, address: u16) -> bool
     ensures { result ≡ within first last address }
 {
-    if address < first {
-        return false;
-    }
-    if last < address {
-        return false;
-    }
-    true
+    (first..=last).contains(&address)
 }
 
 // The place of a register's byte among those that are kept; KEPT if it keeps none.
+#[tactic(auto, unfolding(crate::specs::Pins::place))]
 pub fn place(address: u16) -> usize
     ensures { result ≡ part.place address }
 {
-    if is_within(0xAA, 0xAF, address) {
-        return (address - 0xAA) as usize;
+    match address {
+        0xAA..=0xAF => usize::from(address - 0xAA),
+        0xC0..=0xD4 => usize::from(address - 0xBA),
+        0xE0..=0xE5 => usize::from(address - 0xC5),
+        _ => KEPT,
     }
-    if is_within(0xC0, 0xD4, address) {
-        return (address - 0xBA) as usize;
-    }
-    if is_within(0xE0, 0xE5, address) {
-        return (address - 0xC5) as usize;
-    }
-    KEPT
-}
-
-// The byte kept at an address; 0 if none is.
-fn kept_at(kept: &[u8; KEPT], address: u16) -> u8
-    ensures { result ≡ part.kept_in kept.now address }
-{
-    let at = place(address);
-    if at < KEPT {
-        return kept[at];
-    }
-    0
-}
-
-// A pin's bit in a bank of three registers, one behind the other.
-pub fn bank(kept: &[u8; KEPT], at: usize, pin: u8) -> bool
-    requires { (at + 2 < 33) × (pin < 19) }
-    ensures { result ≡ bit (pin % 8) (get_or kept.now (at + pin / 8) 0) }
-{
-    (kept[at + (pin / 8) as usize] >> (pin % 8)) % 2 == 1
-}
-
-// A pin's bit in a bank of three registers, with those of another bank in between.
-fn paired(kept: &[u8; KEPT], at: usize, pin: u8) -> bool
-    requires { (at + 4 < 33) × (pin < 19) }
-    ensures { result ≡ bit (pin % 8) (get_or kept.now (at + 2 * (pin / 8)) 0) }
-{
-    (kept[at + 2 * (pin / 8) as usize] >> (pin % 8)) % 2 == 1
 }
 
 // Does the keypad use the pin?
+#[tactic(auto, unfolding(crate::specs::Rules::used))]
 pub fn is_used(size: u8, pin: u8) -> bool
     ensures { result ≡ rule.used size pin }
 {
     if pin < 8 {
-        return pin < size / 16;
+        pin < size / 16
+    } else {
+        pin - 8 < size % 16
     }
-    pin - 8 < size % 16
-}
-
-// Is the pin driven?
-fn drives(kept: &[u8; KEPT], size: u8, pin: u8) -> bool
-    requires { pin < 19 }
-    ensures { result ≡ rule.drives (part.kept_in kept.now) size pin }
-{
-    if is_used(size, pin) {
-        return false;
-    }
-    if !bank(kept, DIR, pin) {
-        return false;
-    }
-    if !paired(kept, MASK, pin) {
-        return false;
-    }
-    if !paired(kept, OME, pin) {
-        return true;
-    }
-    paired(kept, OMS, pin) == paired(kept, DATA, pin)
-}
-
-// The pin's bit in a read of GPIODATA.
-fn shows(kept: &[u8; KEPT], level: &[bool; PINS], size: u8, pin: u8) -> bool
-    requires { pin < 19 }
-    ensures { result ≡ rule.shows (part.kept_in kept.now) size (part.flag_in level.now) pin }
-{
-    if is_used(size, pin) {
-        return false;
-    }
-    if !paired(kept, MASK, pin) {
-        return false;
-    }
-    if bank(kept, DIR, pin) {
-        return paired(kept, DATA, pin);
-    }
-    level[pin as usize]
-}
-
-// Does the pin make an edge, its sample having been old and being new?
-fn makes_edge(kept: &[u8; KEPT], size: u8, pin: u8, old: bool, new: bool) -> bool
-    requires { pin < 19 }
-    ensures { result ≡ rule.edge (part.kept_in kept.now) size pin old new }
-{
-    if old == new {
-        return false;
-    }
-    if is_used(size, pin) {
-        return false;
-    }
-    if bank(kept, DIR, pin) {
-        return false;
-    }
-    if bank(kept, IS, pin) {
-        return false;
-    }
-    if bank(kept, IBE, pin) {
-        return true;
-    }
-    bank(kept, IEV, pin) == new
-}
-
-// One pin is sampled.
-fn sample_pin(
-    kept: &[u8; KEPT],
-    edge: &mut [bool; PINS],
-    level: &mut [bool; PINS],
-    before: bool,
-    size: u8,
-    pin: u8,
-    new: bool,
-)
-    requires { pin < 19 }
-    ensures { (level.new ≡ set level.old pin new)
-        × (edge.new ≡ (set edge.old pin true
-        if (before && rule.edge (part.kept_in kept.now) size pin (get_or level.old pin false) new)
-        else edge.old)) }
-{
-    let at = pin as usize;
-    let old = level[at];
-    level[at] = new;
-    if !before {
-        return;
-    }
-    if !makes_edge(kept, size, pin, old, new) {
-        return;
-    }
-    edge[at] = true;
-}
-
-// The pins once they are sampled, bit i for pin i.
-pub fn sampled(p: Pins, size: u8, x: u32) -> Pins
-    ensures { result ≡ part.sampled p size x }
-{
-    let kept = p.kept;
-    let mut edge = p.edge;
-    let mut level = p.level;
-    let mut pin: u8 = 0;
-    while pin < PINS as u8 {
-        sample_pin(
-            &kept,
-            &mut edge,
-            &mut level,
-            p.sampled,
-            size,
-            pin,
-            (x >> pin) % 2 == 1,
-        );
-        pin = pin + 1;
-    }
-    Pins {
-        kept: kept,
-        edge: edge,
-        level: level,
-        sampled: true,
-    }
-}
-
-// A pin's edge is cleared if the byte for its GPIOIC register has a 1 for it.
-fn clear_pin(edge: &mut [bool; PINS], address: u16, b: u8, pin: u8)
-    requires { pin < 19 }
-    ensures { edge.new ≡ (set edge.old pin false if rule.clears address b pin else edge.old) }
-{
-    if address != 0xDC + (pin / 8) as u16 {
-        return;
-    }
-    if (b >> (pin % 8)) % 2 == 1 {
-        edge[pin as usize] = false;
-    }
-}
-
-// The pending edges once a byte is written to a GPIOIC register.
-fn cleared(given: [bool; PINS], address: u16, b: u8) -> [bool; PINS]
-    ensures { result ≡ part.cleared given address b }
-{
-    let mut edge = given;
-    let mut pin: u8 = 0;
-    while pin < PINS as u8 {
-        clear_pin(&mut edge, address, b, pin);
-        pin = pin + 1;
-    }
-    edge
-}
-
-// The pins once a byte is written to the register at an address.
-pub fn written(p: Pins, address: u16, b: u8) -> Pins
-    ensures { result ≡ part.written p address b }
-{
-    let at = place(address);
-    let mut kept = p.kept;
-    let edge = p.edge;
-    let level = p.level;
-    if at < KEPT {
-        kept[at] = b;
-        return Pins {
-            kept: kept,
-            edge: edge,
-            level: level,
-            sampled: p.sampled,
-        };
-    }
-    let rest = cleared(edge, address, b);
-    Pins {
-        kept: kept,
-        edge: rest,
-        level: level,
-        sampled: p.sampled,
-    }
-}
-
-// Is an enabled edge pending?
-pub fn is_raised(kept: &[u8; KEPT], edge: &[bool; PINS]) -> bool
-    ensures { result ≡ part.raised kept.now edge.now }
-{
-    let mut pin: u8 = 0;
-    while pin < PINS as u8 {
-        if is_masked(kept, edge, pin) {
-            return true;
-        }
-        pin = pin + 1;
-    }
-    false
-}
-
-// Is the pin's edge pending and enabled?
-fn is_masked(kept: &[u8; KEPT], edge: &[bool; PINS], pin: u8) -> bool
-    requires { pin < 19 }
-    ensures { result ≡ (part.flag_in edge.now pin && rule.IE (part.kept_in kept.now) pin) }
-{
-    let pending = edge[pin as usize];
-    if !pending {
-        return false;
-    }
-    bank(kept, IE, pin)
-}
-
-// The pins' newest samples; all 0 before the first.
-pub fn newest(p: Pins) -> [bool; PINS]
-    ensures { result ≡ part.newest_of p }
-{
-    let level = p.level;
-    if p.sampled {
-        return level;
-    }
-    [false; PINS]
-}
-
-// What a word tells of one pin.
-fn bit_of(
-    what: What,
-    kept: &[u8; KEPT],
-    edge: &[bool; PINS],
-    level: &[bool; PINS],
-    size: u8,
-    pin: u8,
-) -> bool
-    requires { pin < 19 }
-    ensures { result ≡ part.bit_of what kept.now edge.now level.now size pin }
-{
-    match what {
-        What::Data => shows(kept, level, size, pin),
-        What::Raw => edge[pin as usize],
-        What::Masked => is_masked(kept, edge, pin),
-        What::Driven => drives(kept, size, pin),
-        What::High => is_high(kept, size, pin),
-    }
-}
-
-// Is the pin driven to 1?
-fn is_high(kept: &[u8; KEPT], size: u8, pin: u8) -> bool
-    requires { pin < 19 }
-    ensures { result ≡ (rule.drives (part.kept_in kept.now) size pin && rule.DATA (part.kept_in kept.now) pin) }
-{
-    if !drives(kept, size, pin) {
-        return false;
-    }
-    paired(kept, DATA, pin)
-}
-
-// A bit behind others, which it makes count twice.
-fn with_bit(word: u32, set: bool) -> u32
-    requires { word < 262144 }
-    ensures { result ≡ (1 if set else 0) + 2 * word }
-{
-    if set {
-        return 1 + 2 * word;
-    }
-    2 * word
-}
-
-// A word that tells something of every pin, bit i for pin i.
-pub fn word(
-    what: What,
-    kept: &[u8; KEPT],
-    edge: &[bool; PINS],
-    level: &[bool; PINS],
-    size: u8,
-) -> u32
-    ensures { result ≡ rule.word (part.bit_of what kept.now edge.now level.now size) }
-{
-    let mut word: u32 = 0;
-    let mut pin = PINS as u8;
-    while 0 < pin {
-        pin = pin - 1;
-        word = with_bit(word, bit_of(what, kept, edge, level, size, pin));
-    }
-    word
 }
 
 // The byte of a group of eight pins in a word.
@@ -411,82 +117,227 @@ fn group(word: u32, g: u16) -> u8
     ((word >> (8 * g)) % 256) as u8
 }
 
-// The byte that a read of the register at an address gives.
-pub fn byte(
-    kept: &[u8; KEPT],
-    edge: &[bool; PINS],
-    level: &[bool; PINS],
-    size: u8,
-    address: u16,
-) -> u8
-    ensures { result ≡ rule.reads (part.kept_in kept.now) (part.flag_in edge.now) (part.flag_in level.now) size address }
-{
-    if is_data(address) {
-        return group(
-            word(What::Data, kept, edge, level, size),
-            (address - 0xC0) / 2,
-        );
+impl Pins {
+    // The byte kept at an address; 0 if none is.
+    #[tactic(auto, unfolding(crate::specs::Pins::kept_in))]
+    fn kept_at(&self, address: u16) -> u8
+        ensures { result ≡ part.kept_in self.now.kept address }
+    {
+        let at = place(address);
+        if at < KEPT { self.kept[at] } else { 0 }
     }
-    if is_within(0xD6, 0xD8, address) {
-        return group(word(What::Raw, kept, edge, level, size), address - 0xD6);
-    }
-    if is_within(0xD9, 0xDB, address) {
-        return group(word(What::Masked, kept, edge, level, size), address - 0xD9);
-    }
-    kept_at(kept, address)
-}
 
-// GPIORIS and GPIOMIS, byte for byte, in front of a list as long as the kept bytes.
-pub fn edges(kept: &[u8; KEPT], edge: &[bool; PINS], level: &[bool; PINS], size: u8) -> [u8; KEPT]
-    ensures { result ≡ part.edges kept.now edge.now }
-{
-    let raw = word(What::Raw, kept, edge, level, size);
-    let masked = word(What::Masked, kept, edge, level, size);
-    [
-        group(raw, 0),
-        group(raw, 1),
-        group(raw, 2),
-        group(masked, 0),
-        group(masked, 1),
-        group(masked, 2),
-        0,
-        0,
-        0,
-        0,
-        0,
-        0,
-        0,
-        0,
-        0,
-        0,
-        0,
-        0,
-        0,
-        0,
-        0,
-        0,
-        0,
-        0,
-        0,
-        0,
-        0,
-        0,
-        0,
-        0,
-        0,
-        0,
-        0,
-    ]
-}
+    // A pin's bit in a bank of three registers, so many places from one to the next.
+    // kept: `pin < 19` stands in ten contracts: `bank` is public with a number, and each loop's range shows it; a type for it would be made anew at each turn and be no plainer
+    #[tactic(auto, unfolding(words::specs::Words::bit))]
+    fn bit(&self, at: usize, stride: usize, pin: u8) -> bool
+        requires { (stride ≤ 2) × (at + 2 * stride < 33) × (pin < 19) }
+        ensures { result ≡ bit (pin % 8) (get_or self.now.kept (at + stride * (pin / 8)) 0) }
+    {
+        (self.kept[at + stride * usize::from(pin / 8)] >> (pin % 8)) % 2 == 1
+    }
 
-// Is it the address of a GPIODATA register?
-fn is_data(address: u16) -> bool
-    ensures { result ≡ rule.is_data address }
-{
-    match address {
-        0xC0 => true,
-        0xC2 => true,
-        0xC4 => true,
-        _ => false,
+    // A pin's bit in a bank of three registers, one behind the other.
+    pub fn bank(&self, at: usize, pin: u8) -> bool
+        requires { (at + 2 < 33) × (pin < 19) }
+        ensures { result ≡ bit (pin % 8) (get_or self.now.kept (at + pin / 8) 0) }
+    {
+        self.bit(at, 1, pin)
+    }
+
+    // Is the pin driven?
+    #[tactic(auto, using(crate::proofs::Laws::banks), unfolding(crate::specs::Rules::drives))]
+    fn drives(&self, size: u8, pin: u8) -> bool
+        requires { pin < 19 }
+        ensures { result ≡ rule.drives (part.kept_in self.now.kept) size pin }
+    {
+        !is_used(size, pin)
+            && self.bank(DIR, pin)
+            && self.bit(MASK, PAIRED, pin)
+            && (!self.bit(OME, PAIRED, pin)
+                || self.bit(OMS, PAIRED, pin) == self.bit(DATA, PAIRED, pin))
+    }
+
+    // Is the pin driven to 1?
+    #[tactic(auto, using(crate::proofs::Laws::banks))]
+    fn is_high(&self, size: u8, pin: u8) -> bool
+        requires { pin < 19 }
+        ensures { result ≡ (rule.drives (part.kept_in self.now.kept) size pin && rule.DATA (part.kept_in self.now.kept) pin) }
+    {
+        self.drives(size, pin) && self.bit(DATA, PAIRED, pin)
+    }
+
+    // The pin's bit in a read of GPIODATA.
+    #[tactic(auto, using(crate::proofs::Laws::banks), unfolding(crate::specs::Rules::shows))]
+    fn shows(&self, size: u8, pin: u8) -> bool
+        requires { pin < 19 }
+        ensures { result ≡ rule.shows (part.kept_in self.now.kept) size (part.flag_in self.now.level) pin }
+    {
+        if is_used(size, pin) || !self.bit(MASK, PAIRED, pin) {
+            false
+        } else if self.bank(DIR, pin) {
+            self.bit(DATA, PAIRED, pin)
+        } else {
+            self.level[usize::from(pin)]
+        }
+    }
+
+    // Does the pin make an edge, its sample having been old and being new?
+    #[tactic(auto, using(crate::proofs::Laws::banks), unfolding(crate::specs::Rules::edge))]
+    fn makes_edge(&self, size: u8, pin: u8, old: bool, new: bool) -> bool
+        requires { pin < 19 }
+        ensures { result ≡ rule.edge (part.kept_in self.now.kept) size pin old new }
+    {
+        old != new
+            && !is_used(size, pin)
+            && !self.bank(DIR, pin)
+            && !self.bank(IS, pin)
+            && (self.bank(IBE, pin) || self.bank(IEV, pin) == new)
+    }
+
+    // One pin is sampled.
+    fn sample_pin(&mut self, size: u8, pin: u8, new: bool)
+        requires { pin < 19 }
+        ensures { self.new ≡ part.pins self.old.kept
+            (set self.old.edge pin true
+            if (self.old.sampled && rule.edge (part.kept_in self.old.kept) size pin (get_or self.old.level pin false) new)
+            else self.old.edge)
+            (set self.old.level pin new) self.old.sampled }
+    {
+        let at = usize::from(pin);
+        let old = self.level[at];
+        self.level[at] = new;
+        if self.sampled && self.makes_edge(size, pin, old, new) {
+            self.edge[at] = true;
+        }
+    }
+
+    // The pins are sampled, bit i for pin i.
+    pub fn sample(&mut self, size: u8, x: u32)
+        ensures { self.new ≡ part.sampled self.old size x }
+    {
+        for pin in 0..END {
+            self.sample_pin(size, pin, (x >> pin) % 2 == 1);
+        }
+        self.sampled = true;
+    }
+
+    // A pin's edge is cleared if the byte for its GPIOIC register has a 1 for it.
+    #[tactic(auto, unfolding(crate::specs::Rules::clears, words::specs::Words::bit))]
+    fn clear_pin(&mut self, address: u16, b: u8, pin: u8)
+        requires { pin < 19 }
+        ensures { self.new ≡ part.pins self.old.kept
+            (set self.old.edge pin false if rule.clears address b pin else self.old.edge)
+            self.old.level self.old.sampled }
+    {
+        if address == 0xDC + u16::from(pin / 8) && (b >> (pin % 8)) % 2 == 1 {
+            self.edge[usize::from(pin)] = false;
+        }
+    }
+
+    // Pending edges are cleared, as a byte written to a GPIOIC register says.
+    fn clear(&mut self, address: u16, b: u8)
+        ensures { self.new ≡ part.pins self.old.kept (part.cleared self.old.edge address b) self.old.level self.old.sampled }
+    {
+        for pin in 0..END {
+            self.clear_pin(address, b, pin);
+        }
+    }
+
+    // A byte is written to the register at an address.
+    #[tactic(auto, unfolding(crate::specs::Pins::written))]
+    pub fn write(&mut self, address: u16, b: u8)
+        ensures { self.new ≡ part.written self.old address b }
+    {
+        let at = place(address);
+        if at < KEPT {
+            self.kept[at] = b;
+        } else {
+            self.clear(address, b);
+        }
+    }
+
+    // Is the pin's edge pending and enabled?
+    #[tactic(auto, using(crate::proofs::Laws::banks))]
+    fn is_masked(&self, pin: u8) -> bool
+        requires { pin < 19 }
+        ensures { result ≡ (part.flag_in self.now.edge pin && rule.IE (part.kept_in self.now.kept) pin) }
+    {
+        self.edge[usize::from(pin)] && self.bank(IE, pin)
+    }
+
+    // Is an enabled edge pending?
+    pub fn is_raised(&self) -> bool
+        ensures { result ≡ part.raised self.now.kept self.now.edge }
+    {
+        (0..END).any(|pin| self.is_masked(pin))
+    }
+
+    // The pins' newest samples; all 0 before the first.
+    #[tactic(auto, unfolding(crate::specs::Pins::newest_of))]
+    pub fn newest(&self) -> [bool; PINS]
+        ensures { result ≡ part.newest_of self.now }
+    {
+        if self.sampled {
+            self.level
+        } else {
+            [false; PINS]
+        }
+    }
+
+    // What a word tells of one pin.
+    #[tactic(auto, unfolding(crate::specs::Pins::bit_of))]
+    fn bit_of(&self, what: What, size: u8, pin: u8) -> bool
+        requires { pin < 19 }
+        ensures { result ≡ part.bit_of what self.now.kept self.now.edge self.now.level size pin }
+    {
+        match what {
+            What::Data => self.shows(size, pin),
+            What::Raw => self.edge[usize::from(pin)],
+            What::Masked => self.is_masked(pin),
+            What::Driven => self.drives(size, pin),
+            What::High => self.is_high(size, pin),
+        }
+    }
+
+    // A word that tells something of every pin, bit i for pin i.
+    pub fn word(&self, what: What, size: u8) -> u32
+        ensures { result ≡ rule.word (part.bit_of what self.now.kept self.now.edge self.now.level size) }
+    {
+        let mut word: u32 = 0;
+        for pin in (0..END).rev() {
+            word = u32::from(self.bit_of(what, size, pin)) + 2 * word;
+        }
+        word
+    }
+
+    // The byte that a read of the register at an address gives.
+    #[tactic(auto, unfolding(crate::specs::Rules::reads, crate::specs::Rules::is_data, crate::specs::Rules::byte_by, crate::specs::Pins::bit_of))]
+    pub fn byte(&self, size: u8, address: u16) -> u8
+        ensures { result ≡ rule.reads (part.kept_in self.now.kept) (part.flag_in self.now.edge) (part.flag_in self.now.level) size address }
+    {
+        match address {
+            0xC0 | 0xC2 | 0xC4 => group(self.word(What::Data, size), (address - 0xC0) / 2),
+            0xD6..=0xD8 => group(self.word(What::Raw, size), address - 0xD6),
+            0xD9..=0xDB => group(self.word(What::Masked, size), address - 0xD9),
+            _ => self.kept_at(address),
+        }
+    }
+
+    // GPIORIS and GPIOMIS, byte for byte, in front of a list as long as the kept bytes.
+    #[tactic(auto, unfolding(crate::specs::Pins::edges, crate::specs::Rules::byte_by, crate::specs::Pins::bit_of))]
+    pub fn edges(&self, size: u8) -> [u8; KEPT]
+        ensures { result ≡ part.edges self.now.kept self.now.edge }
+    {
+        let raw = self.word(What::Raw, size);
+        let masked = self.word(What::Masked, size);
+        let mut bytes = [0; KEPT];
+        bytes[0] = group(raw, 0);
+        bytes[1] = group(raw, 1);
+        bytes[2] = group(raw, 2);
+        bytes[3] = group(masked, 0);
+        bytes[4] = group(masked, 1);
+        bytes[5] = group(masked, 2);
+        bytes
     }
 }

@@ -3,13 +3,13 @@
 --    run_end             an access of no bytes has no address
 --    run_no, run_yes     the first address decides, or the rest does
 --    run_in from to a n   do n bytes from the address a on all lie in the registers from one address up to another?
---    before_run, past_run, in_run, run_from, run_to    which runs do
+--    run_from, run_to    where such a run begins, and where it ends
 --    picture_from, picture_to    of the picture's four registers
 --    keypad_below, pin_from      below 0x91 the registers are the keypad's, and from there on the pins'
 --    pin_known, pin_known_write  a register of the pins that can be read, and one that can be written
 --    next_pin            behind an address of the pins comes the next one
 --    reads_pulls, reads_settings, reads_edges, reads_drains    those of the pins that can be read one after another
---    no_address, small   above 0xFF there is no register; the number of a picture register fits a byte
+--    no_address          above 0xFF there is no register
 -- Assumes nothing.
 use Prim.Native.Nat.{ℕ, zero, suc, ◌+◌, ◌-◌, ◌≤◌, ◌<◌}
 use native.Mathlib.Nat.{not-suc-le-zero}
@@ -46,16 +46,6 @@ abbrev pub run_in : ℕ → ℕ → ℕ → ℕ → Bool
 run_in from to a n = leb from a && leb (a + n) to
 
 module _ (from to a n : ℕ) where
-  pub before_run : a < from → run_in from to a n ≡ false
-  before_run h = rw (lt-leb from a h)
-
-  module _ (h : from ≤ a) where
-    pub past_run : to < a + n → run_in from to a n ≡ false
-    past_run l = rw (le-leb from a h, lt-leb (a + n) to l)
-
-    pub in_run : a + n ≤ to → run_in from to a n ≡ true
-    in_run l = rw (le-leb from a h, le-leb (a + n) to l)
-
   pub run_from : run_in from to a n ≡ true → from ≤ a
   run_from e = leb-true from a (and_left (leb from a) (leb (a + n) to) e)
 
@@ -136,7 +126,3 @@ module _ (a : ℕ) (h : 0xFF < a) where
   -- "there is no address 0x100"
   pub no_address : register_at a ≡ Unknown
   no_address = pin_from a (omega arith) ∙ rw (no_read, no_write)
-
--- which of the picture's four it is fits a byte
-pub small : (a : ℕ) → a < 0x0F → a - 0x0B < 256
-small a h = omega arith

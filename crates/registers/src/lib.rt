@@ -6,7 +6,7 @@ ghost use Rattle.registers.specs.Registers.{keypad_at, pin_at, pin_reads, pin_wr
 ghost use Rattle.registers.specs.Runs.{next, run_allowed};
 
 // The registers by the data sheet's names; KBDCODE holds which of the four it is, PIN the address of a register of the spare pins, IRQST among them.
-#[derive(Clone, Copy)]
+#[derive(Clone, Copy, Debug, PartialEq, Eq)]
 pub enum Register {
     KBDBOUNCE,
     KBDSIZE,
@@ -22,7 +22,7 @@ pub enum Register {
 }
 
 // The two ways of an access.
-#[derive(Clone, Copy)]
+#[derive(Clone, Copy, Debug, PartialEq, Eq)]
 pub enum Access {
     Read,
     Write,
@@ -32,70 +32,48 @@ pub enum Access {
 pub const IRQST: u16 = 0x91;
 
 // May the pins' register at this address be read?
+#[tactic(auto, unfolding(crate::specs::Registers::pin_reads))]
 fn pin_reads(address: u16) -> bool
     ensures { result ≡ pin_reads address }
 {
-    if address == IRQST {
-        return true;
-    }
-    if pins::is_within(0xAA, 0xAF, address) {
-        return true;
-    }
-    if address == 0xC0 {
-        return true;
-    }
-    if address == 0xC2 {
-        return true;
-    }
-    if address == 0xC4 {
-        return true;
-    }
-    if pins::is_within(0xC6, 0xD4, address) {
-        return true;
-    }
-    if pins::is_within(0xD6, 0xDB, address) {
-        return true;
-    }
-    pins::is_within(0xE0, 0xE5, address)
+    matches!(
+        address,
+        IRQST | 0xAA..=0xAF | 0xC0 | 0xC2 | 0xC4 | 0xC6..=0xD4 | 0xD6..=0xDB | 0xE0..=0xE5
+    )
 }
 
 // May it be written?
+#[tactic(auto, unfolding(crate::specs::Registers::pin_writes))]
 fn pin_writes(address: u16) -> bool
     ensures { result ≡ pin_writes address }
 {
-    if pins::is_within(0xAA, 0xAF, address) {
-        return true;
-    }
-    if pins::is_within(0xC0, 0xD4, address) {
-        return true;
-    }
-    if pins::is_within(0xDC, 0xDE, address) {
-        return true;
-    }
-    pins::is_within(0xE0, 0xE5, address)
+    matches!(
+        address,
+        0xAA..=0xAF | 0xC0..=0xD4 | 0xDC..=0xDE | 0xE0..=0xE5
+    )
 }
 
 // The pins' register at an address from IRQST on.
 fn pin_at(address: u16) -> Register
     ensures { result ≡ pin_at address }
 {
-    if pin_reads(address) {
-        return Register::PIN(address);
+    if pin_reads(address) || pin_writes(address) {
+        Register::PIN(address)
+    } else {
+        Register::Unknown
     }
-    if pin_writes(address) {
-        return Register::PIN(address);
-    }
-    Register::Unknown
 }
 
 // The register at an address.
+#[tactic(auto, unfolding(crate::specs::Registers::register_at))]
 pub fn register_at(address: u16) -> Register
     ensures { result ≡ register_at address }
 {
     if address < IRQST {
-        return keypad_at(address);
+        keypad_at(address)
+    } else {
+        pin_at(address)
     }
-    pin_at(address)
 }
 
 // The keypad's register at an address below IRQST.
@@ -121,17 +99,15 @@ pub fn can_read(register: Register) -> bool
     ensures { result ≡ can_read register }
 {
     match register {
-        Register::KBDBOUNCE => true,
-        Register::KBDSIZE => true,
-        Register::KBDRIS => true,
-        Register::KBDMIS => true,
-        Register::KBDIC => false,
-        Register::KBDMSK => true,
-        Register::KBDCODE(_) => true,
-        Register::EVTCODE => true,
-        Register::RSTINTCLR => false,
+        Register::KBDBOUNCE
+        | Register::KBDSIZE
+        | Register::KBDRIS
+        | Register::KBDMIS
+        | Register::KBDMSK
+        | Register::KBDCODE(_)
+        | Register::EVTCODE => true,
+        Register::KBDIC | Register::RSTINTCLR | Register::Unknown => false,
         Register::PIN(address) => pin_reads(address),
-        Register::Unknown => false,
     }
 }
 
@@ -140,21 +116,22 @@ pub fn can_write(register: Register) -> bool
     ensures { result ≡ can_write register }
 {
     match register {
-        Register::KBDBOUNCE => true,
-        Register::KBDSIZE => true,
-        Register::KBDRIS => false,
-        Register::KBDMIS => false,
-        Register::KBDIC => true,
-        Register::KBDMSK => true,
-        Register::KBDCODE(_) => false,
-        Register::EVTCODE => false,
-        Register::RSTINTCLR => true,
+        Register::KBDBOUNCE
+        | Register::KBDSIZE
+        | Register::KBDIC
+        | Register::KBDMSK
+        | Register::RSTINTCLR => true,
+        Register::KBDRIS
+        | Register::KBDMIS
+        | Register::KBDCODE(_)
+        | Register::EVTCODE
+        | Register::Unknown => false,
         Register::PIN(address) => pin_writes(address),
-        Register::Unknown => false,
     }
 }
 
 // May the register be accessed so?
+#[tactic(auto, unfolding(crate::specs::Registers::allowed))]
 pub fn is_allowed(access: Access, register: Register) -> bool
     ensures { result ≡ allowed access register }
 {
@@ -172,16 +149,15 @@ pub fn stays(address: u16) -> bool
 }
 
 // The address of an access's next byte. 0x100 stands for no address, and none follows it.
+#[tactic(auto, unfolding(crate::specs::Runs::next))]
 pub fn next_address(address: u16) -> u16
     ensures { result ≡ next address }
 {
-    if stays(address) {
-        return address;
+    if stays(address) || 0x100 <= address {
+        address
+    } else {
+        address + 1
     }
-    if 0x100 <= address {
-        return address;
-    }
-    address + 1
 }
 
 // The first of the picture's four registers.
@@ -191,16 +167,7 @@ pub const KBDCODE0: u16 = 0x0B;
 pub fn is_run_in(from: u16, to: u16, first: u16, count: usize) -> bool
     ensures { result ≡ (leb from first && leb (first + count) to) }
 {
-    if first < from {
-        return false;
-    }
-    if to < first {
-        return false;
-    }
-    if ((to - first) as usize) < count {
-        return false;
-    }
-    true
+    pins::is_within(from, to, first) && count <= usize::from(to - first)
 }
 
 // Do so many bytes from this address on all lie in the picture's four registers?
@@ -215,13 +182,11 @@ pub fn is_run_allowed(access: Access, first: u16, count: usize) -> bool
     ensures { result ≡ run_allowed access first count }
 {
     let mut address = first;
-    let mut rest = count;
-    while 0 < rest {
+    for _ in 0..count {
         if !is_allowed(access, register_at(address)) {
             return false;
         }
         address = next_address(address);
-        rest = rest - 1;
     }
     true
 }

@@ -4,13 +4,14 @@
 --    hidden_same          a key that is hidden leaves all as it is
 --    first_low            the first key that is shown is one of the row
 --    row_none, row_next   a row before the first key that is shown, and from one key to the next
---    rows_none, rows_next    the rows before the first, and from one to the next
+--    rows_next            from one row to the next
+--    walk_on              two walks, one after the other
 --    done m s k           what a look alters, once the keys below k are done
 --    done_none            before the first key
 --    done_rows            after the rows of the size
 --    done_rest            the rows out of the size are still
 --    done_all             after the last key this is the state after the look
---    walked               so it is after the rows of the size
+--    walked               so it is after the rows of the size, once the look is counted
 --    runs_none, runs_next, runs_all    some key has a run: before the first key, from one to the next, and after the last
 --    settles_runs         some contact is settling after a look exactly if some key has a run then
 --    after m p z          the state m with these parts, and with this count and sleep
@@ -19,13 +20,14 @@ use Prim.Native.Nat.{ℕ, zero, suc, ◌+◌, ◌-◌, ◌*◌, ◌/◌, ◌<◌
 use native.Mathlib.Numerals.{add-one, unary_clauses}
 use native.Mathlib.Omega.{arith}
 use native.Mathlib.Decide.{dec_lt}
-use mathlib.Core.Path.{◌≡◌, refl, sym, ap, ◌∙◌}
+use mathlib.Core.Path.{◌≡◌, refl, sym, ap, subst, ◌∙◌}
 use mathlib.Core.Bool.{Bool, true, false, not, ◌&&◌, ◌||◌, cond, or-false, and-false}
 use mathlib.Core.List.{List}
 use lib.ListN.{length, get_or, set}
 use lib.Seq.{set-get_or}
 use borrow.Author.Tests.{lt-ltb, le-ltb, ne_eqb}
 use lib.Dec.{ltb, eqb}
+use Rattle.std.proofs.Math.Bool.{or_assoc}
 use Rattle.words.specs.Words.{◌if◌, ◌else◌, some, all_below, table}
 use Rattle.words.proofs.Lists.{by_test}
 use Rattle.words.proofs.Tables.{table_at, replaced, replaced_none, replaced_all, replaced_at, replaced_next}
@@ -37,11 +39,11 @@ use Rattle.contact.specs.declared.Sight.TheVariants.{Hidden}
 use Rattle.contact.specs.Contact.{moved, stepped, sight_of}
 use Rattle.contact.proofs.Laws.{step_settling}
 use Rattle.state.specs.declared.Module.{Module}
-use Rattle.state.specs.Module.{Queue, Sleep, queue_of, sleep_of, with_keys, with_queue, with_sleep}
+use Rattle.state.specs.Module.{Queue, Sleep, queue_of, sleep_of, with_queue, with_sleep}
 use Rattle.state.specs.Queue.{put, put_all}
 use Rattle.state.specs.Sleep as asleep
 use Rattle.scan.specs.Scan.{sight, contact_at, changes_below, changes, settles_below, calm, contacts, noticed, looked}
-use Rattle.scan.specs.Walk.{Parts, parts, counted, shows, first_shown, became, at_key, at_row, at_rows, runs, Still}
+use Rattle.scan.specs.Walk.{Parts, parts, parts_of, with_parts, Walked, counted, shows, first_shown, became, at_key, at_row, at_rows, runs, Still}
 use Rattle.scan.proofs.Laws.{out_rests, changed_sample, below_queue, below_some, calm_stirred, looked_noticed}
 
 -- what a look needs of a key's test is enough
@@ -54,6 +56,33 @@ moved_key d k o p x e =
 hidden_same : (d k : ℕ) (p : Parts) → at_key d k Hidden p ≡ p
 unfolding at_key stepped
 hidden_same d k p = λ i. parts (set-get_or p.held k false i) (set-get_or p.run k 0 i) p.queue (or-false p.any i)
+
+-- ---- a change before a walk is a change after it, and alters nothing else
+abbrev unchanged : Parts → Parts
+unchanged p = parts p.held p.run p.queue false
+
+abbrev added : Bool → Parts → Parts
+added any p = parts p.held p.run p.queue (any || p.any)
+
+key_added : (d k : ℕ) (o : Sight) (any : Bool) (p : Parts) → at_key d k o (added any p) ≡ added any (at_key d k o p)
+unfolding at_key
+key_added d k o any p =
+    let q = at_key d k o p in
+    λ i. parts q.held q.run q.queue (or_assoc any p.any (stepped (get_or p.held k false) (get_or p.run k 0) o d).changed i)
+
+row_added : (d size x row : ℕ) (p : Parts) (n : ℕ) → at_row d size x row p n ≡ added p.any (at_row d size x row (unchanged p) n)
+unfolding at_row
+row_added d size x row p zero = λ i. parts p.held p.run p.queue (sym (or-false p.any) i)
+row_added d size x row p (suc n) =
+    ap (at_key d (13 * row + n) (shows x size row n)) (row_added d size x row p n)
+    ∙ key_added d (13 * row + n) (shows x size row n) p.any (at_row d size x row (unchanged p) n)
+
+module _ (m : Module) (p : Parts) {n o : Module} {a b : Bool} (f : Parts → Parts) (g : f p ≡ added p.any (f (unchanged p))) where
+  walk_on : Walked p m n a → Walked (f (parts_of n false)) n o b → Walked (f p) m o (a || b)
+  walk_on e h = (
+    h.0 ∙ ap (λ (l : Module). with_parts l (f (parts_of l false))) e.0 ∙ ap (with_parts m) (sym g),
+    (λ i. e.1 i || (h.1 ∙ ap (λ (l : Module). (f (parts_of l false)).any) e.0) i) ∙ ap (λ (q : Parts). q.any) (sym g),
+  )
 
 module _ (d size x row : ℕ) (p : Parts) where
   -- while the special function contact is closed
@@ -80,19 +109,25 @@ module _ (d size x row : ℕ) (p : Parts) where
       by_test (λ t. cond t 12 0 ≤ col → sight_of (ltb col 12 && t) (counted x size row col) ≡ sight_of false (counted x size row col)) (counted x size row 12)
       (λ _ l. rw (le-ltb col 12 l)) (λ _ _. rw (and-false (ltb col 12)))
 
-  pub row_next : (col : ℕ) {q r : Parts} {o : Sight} → first_shown x size row ≤ col → q ≡ at_row d size x row p col
-      → o ≡ sight_of false (counted x size row col) → r ≡ at_key d (13 * row + col) o q → r ≡ at_row d size x row p (col + 1)
-  unfolding at_row
-  row_next col l e f g = rw (add-one col) (g ∙ (λ i. at_key d (13 * row + col) ((f ∙ sym (in_sight col l)) i) (e i)))
+  pub row_next : (m : Module) (col : ℕ) {n l : Module} {a b : Bool} {o : Sight} → first_shown x size row ≤ col
+      → Walked (at_row d size x row p col) m n a → o ≡ sight_of false (counted x size row col)
+      → Walked (at_key d (13 * row + col) o (parts_of n false)) n l b → Walked (at_row d size x row p (col + 1)) m l (a || b)
+  unfolding at_row at_key
+  row_next m col low e f g =
+      rw (add-one col, in_sight col low, sym f)
+      (walk_on m (at_row d size x row p col) (at_key d (13 * row + col) _) refl e g)
 
-module _ (d size : ℕ) (s : List ℕ) (p : Parts) where
-  pub rows_none : p ≡ at_rows d size s p 0
+module _ (m : Module) (s : List ℕ) (p : Parts) where
+  -- the walk alters neither the bounce nor the size
+  pub rows_next : (row : ℕ) {n l : Module} {a b : Bool} → Walked (at_rows m.bounce m.size s p row) m n a
+      → Walked (at_row n.bounce n.size (get_or s row 0) row (parts_of n false) 13) n l b → Walked (at_rows m.bounce m.size s p (row + 1)) m l (a || b)
   unfolding at_rows
-  rows_none = refl
-
-  pub rows_next : (row : ℕ) {q r : Parts} → q ≡ at_rows d size s p row → r ≡ at_row d size (get_or s row 0) row q 13 → r ≡ at_rows d size s p (row + 1)
-  unfolding at_rows
-  rows_next row e f = rw (add-one row) (f ∙ ap (λ (o : Parts). at_row d size (get_or s row 0) row o 13) e)
+  rows_next row {n} {l} {a} {b} e f =
+      let x = get_or s row 0 in
+      let q = at_rows m.bounce m.size s p row in
+      rw (add-one row)
+      (walk_on m q (λ r. at_row m.bounce m.size x row r 13) (row_added m.bounce m.size x row q 13) e
+      (subst (λ (k : Module). Walked (at_row k.bounce k.size x row (parts_of n false) 13) n l b) e.0 f))
 
 -- ---- settling
 not_and : (a b : Bool) → not (a && b) ≡ (not a || not b)
@@ -143,7 +178,7 @@ module _ (m : Module) (s : List ℕ) where
 
 -- ---- the keys below k are done
 abbrev after : Module → Parts → Sleep → Module
-after m p z = with_sleep (with_queue (with_keys m p.held p.run) p.queue) z
+after m p z = with_sleep (with_parts m p) z
 
 abbrev done : Module → List ℕ → ℕ → Parts
 done m s k = parts (replaced (λ j. (contact_at m s j).held) k m.held) (replaced (λ j. (contact_at m s j).run) k m.run) (put_all (queue_of m) (changes_below m s k)) (some (changes_below m s k))
@@ -256,9 +291,10 @@ module _ (m : Module) (s : List ℕ) where
         ap (λ (n : Module). noticed n if b else n) (done_state z (g ∙ ap (asleep.counted (sleep_of m)) (sym (done_calm b f)))) ∙ sym (looked_noticed m s b (done_any b f))
 
   module _ (still : Still m.size m.held m.run) (long-held : length m.held ≡ 104) (long-run : length m.run ≡ 104) where
-    pub walked : {p : Parts} → p ≡ at_rows m.bounce m.size s (parts m.held m.run (queue_of m) false) (m.size / 16)
-        → (b : Bool) → p.any ≡ b → {z : Sleep} → z ≡ asleep.counted (sleep_of m) (not (b || runs p.run)) → (noticed (after m p z) if b else after m p z) ≡ looked m s
-    walked e b f {z} g =
+    pub walked : {n : Module} {any : Bool} → Walked (at_rows m.bounce m.size s (parts_of m false) (m.size / 16)) m n any
+        → (noticed (with_sleep n (asleep.counted (sleep_of n) (not (any || runs n.run)))) if any else with_sleep n (asleep.counted (sleep_of n) (not (any || runs n.run)))) ≡ looked m s
+    walked {any = any} e =
         let rows = m.size / 16 in
-        let all = e ∙ ap (λ (o : Parts). at_rows m.bounce m.size s o rows) done_none ∙ done_rows long-held long-run rows still.rows in
-        done_all (done_rest still long-held long-run rows refl all) refl long-held long-run b f z g
+        let all = ap (λ (o : Parts). at_rows m.bounce m.size s o rows) done_none ∙ done_rows long-held long-run rows still.rows in
+        ap (λ (l : Module). noticed (with_sleep l (asleep.counted (sleep_of l) (not (any || runs l.run)))) if any else with_sleep l (asleep.counted (sleep_of l) (not (any || runs l.run)))) e.0
+        ∙ done_all (done_rest still long-held long-run rows refl all) refl long-held long-run any (sym e.1) _ refl

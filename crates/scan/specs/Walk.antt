@@ -1,6 +1,9 @@
 -- A look as the code walks it, key by key. What a look does is said in Scan alone; this is for the contracts of the walk's own functions.
 --
---    Parts, parts h r q a         what a look alters: the keys held, their runs, the queue, and whether a key has changed
+--    Parts, parts h r q a         what a look's walk alters: the keys held, their runs, the queue, and whether a key has changed
+--    parts_of m a                 these parts of the module m, a being whether a key has changed
+--    with_parts m p               the module m, with these parts for its own
+--    Walked p a b any             the walk makes the module b of a, with the parts p, and tells whether a key has changed
 --    counted x size row col       a key's sample, x being its row's
 --    shows x size row col         what the look shows of the key
 --    first_shown x size row       the row's first column that the look shows
@@ -8,9 +11,6 @@
 --    at_row d size x row p n      the parts p after the row's keys in columns below n
 --    at_rows d size s p n         the parts p after the rows below n, s being the samples
 --    runs run                     some key has a run
---    Altered, altered h r q rs rk seen z    all that a look can alter: keys, queue, flags, marks, the count and the sleep
---    whole d size a mask porirq pins    the module that has these
---    LookedOn d size s a b        a look with the samples s makes b of a, whatever the mask, PORIRQ and the pins, which it neither asks nor alters
 --    Still size held run          every key out of the size is open and has no run, and there are at most 8 rows
 use Rattle.std.specs.Prelude.{ℕ, zero, suc, ◌+◌, ◌*◌, ◌/◌, ◌≤◌, ◌<◌, ◌≡◌, Bool, false, not, ◌&&◌, ◌||◌, List, get_or, set, ltb, eqb}
 use Rattle.words.specs.Words.{◌if◌, ◌else◌, all_below, bit}
@@ -18,11 +18,9 @@ use Rattle.keys.specs.Keys.{code, in_size, key_in}
 use Rattle.contact.specs.declared.Contact.{Contact}
 use Rattle.contact.specs.declared.Sight.{Sight}
 use Rattle.contact.specs.Contact.{stepped, sight_of}
-use Rattle.pins.specs.declared.Pins.{Pins}
 use Rattle.state.specs.declared.Module.{Module}
-use Rattle.state.specs.Module.{Queue, Sleep, keys, settings, flags, made}
+use Rattle.state.specs.Module.{Queue, queue_of, with_keys, with_queue}
 use Rattle.state.specs.Queue.{put}
-use Rattle.scan.specs.Scan.{looked}
 
 pub record Parts : Type 0 where
   pub held : List Bool
@@ -32,6 +30,15 @@ pub record Parts : Type 0 where
 
 abbrev pub parts : List Bool → List ℕ → Queue → Bool → Parts
 parts held run queue any = record { held = held; run = run; queue = queue; any = any }
+
+abbrev pub parts_of : Module → Bool → Parts
+parts_of m any = parts m.held m.run (queue_of m) any
+
+abbrev pub with_parts : Module → Parts → Module
+with_parts m p = with_queue (with_keys m p.held p.run) p.queue
+
+abbrev pub Walked : Parts → Module → Module → Bool → Type 0
+Walked p a b any = (b ≡ with_parts a p) × (any ≡ p.any)
 
 unfoldable pub counted : ℕ → ℕ → ℕ → ℕ → Bool
 counted x size row col = bit col x if in_size size row col else false
@@ -62,26 +69,6 @@ at_rows d size s p (suc row) = at_row d size (get_or s row 0) row (at_rows d siz
 -- a contact is settling exactly if it has a run
 unfoldable pub runs : List ℕ → Bool
 runs run = not (all_below (λ k. eqb (get_or run k 0) 0) 104)
-
-pub record Altered : Type 0 where
-  pub held : List Bool
-  pub run : List ℕ
-  pub queue : Queue
-  pub rsint : Bool
-  pub rklint : Bool
-  pub seen : List Bool
-  pub sleep : Sleep
-
-abbrev pub altered : List Bool → List ℕ → Queue → Bool → Bool → List Bool → Sleep → Altered
-altered held run queue rsint rklint seen sleep =
-    record { held = held; run = run; queue = queue; rsint = rsint; rklint = rklint; seen = seen; sleep = sleep }
-
-abbrev pub whole : ℕ → ℕ → Altered → ℕ → Bool → Pins → Module
-whole d size a mask porirq pins =
-    made (keys a.held a.run) a.queue (settings d size mask) (flags a.rsint a.rklint porirq a.seen) pins a.sleep
-
-unfoldable pub LookedOn : ℕ → ℕ → List ℕ → Altered → Altered → Type 0
-LookedOn d size s a b = (mask : ℕ) (porirq : Bool) (pins : Pins) → whole d size b mask porirq pins ≡ looked (whole d size a mask porirq pins) s
 
 -- what soundness says of the keys that a look need not walk
 pub record Still (size : ℕ) (held : List Bool) (run : List ℕ) : Type 0 where

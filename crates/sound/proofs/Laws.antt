@@ -1,25 +1,30 @@
 -- Laws of soundness.
 --
 --    sound_facts, facts_sound   computed or as facts, it is the same
+--    sound_size, sound_count    the size and the count alone can decide
+--    sound_in_turn              the state is sound if the code's tests, one after the other, say so
+--    told_by                    a test of each item of a list
 --    fresh_sound                the state after reset is sound
 --    sound_out                  a key out of the size is open and has no run
 --    keys_yes, keys_no          a row of keys is sound, or one is not
 -- Assumes nothing.
-use Prim.Native.Nat.{ℕ, ◌+◌, ◌*◌, ◌<◌}
+use Prim.Native.Nat.{ℕ, ◌+◌, ◌*◌, ◌<◌, ◌≤◌}
 use native.Mathlib.Omega.{arith}
 use mathlib.Core.Path.{◌≡◌, refl, sym, ap, ◌∙◌}
-use mathlib.Core.Bool.{Bool, true, false, not, ◌&&◌, ◌||◌, beq}
+use mathlib.Core.Bool.{Bool, true, false, not, ◌&&◌, ◌||◌, beq, and_assoc, and-true}
 use mathlib.Core.List.{List}
-use lib.ListN.{get_or}
-use lib.Dec.{eqb}
-use borrow.Author.Tests.{le-leb, leb-true, eqb-true, not-true}
+use lib.ListN.{length, get_or}
+use lib.Dec.{leb, eqb}
+use borrow.Author.Tests.{le-leb, lt-leb, leb-true, eqb-true, not-true}
 use Rattle.words.specs.Words.{every, all, all_below}
-use Rattle.words.proofs.Laws.{true_false, and_left, and_right, every_none, every_first, every_rest, every_cons, all_below_lem, below_all}
+use Rattle.std.specs.Prelude.{◌↔◌}
+use Rattle.words.proofs.Lists.{all_at, all_of}
+use Rattle.words.proofs.Laws.{true_false, and_left, and_right, every_none, every_no, every_later, every_first, every_rest, every_cons, all_below_lem, below_all}
 use Rattle.keys.specs.Keys.{acceptable, row_of, col_of, in_size, key_in}
 use Rattle.keys.proofs.Laws.{place_row, place_col}
 use Rattle.keys.proofs.Rows.{rows_yes, rows_no}
 use Rattle.state.specs.declared.Module.{Module}
-use Rattle.state.specs.Module.{fresh, forgotten}
+use Rattle.state.specs.Module.{fresh, forgotten, queue_of}
 use Rattle.state.specs.Queue.{waiting}
 use Rattle.picture.specs.Picture.{all_read}
 use Rattle.sound.specs.Sound.{key_sound, place_sound, keys_sound, codes_sound, rest_unused, sound, Sound}
@@ -35,6 +40,31 @@ same_beq true true e = refl
 same_beq true false e = sym e
 same_beq false true e = e
 same_beq false false e = refl
+
+-- a test of each item of a list
+pub told_by : (f : ℕ → Bool) (l : List ℕ) (b : Bool) → (b ≡ true ↔ ((k : ℕ) → k < length l → f (get_or l k 0) ≡ true)) → b ≡ all f l
+told_by f l true h = sym (all_of f 0 l (h.0 refl))
+told_by f l false h = go (all f l) refl
+  where
+    go : (t : Bool) → all f l ≡ t → false ≡ all f l
+    go true e = true_false (sym (h.1 (all_at f 0 l e)))
+    go false e = sym e
+
+pub sound_size : (m : Module) → acceptable m.size ≡ false → sound m ≡ false
+unfolding sound
+sound_size m e = every_no _ _ e
+
+pub sound_count : (m : Module) → 15 < m.count → sound m ≡ false
+unfolding sound
+sound_count m h = every_later _ _ (every_later _ _ (every_no _ _ (lt-leb _ _ h)))
+
+-- in the order in which the code asks
+pub sound_in_turn : (m : Module) → acceptable m.size ≡ true → m.count ≤ 15
+    → sound m
+    ≡ (keys_sound m.size m.held m.run && codes_sound m.size (queue_of m) && rest_unused (queue_of m) && leb m.mask 0x0F && not (all_read m.seen)
+    && (leb m.quiet 255 && beq m.asleep (eqb m.quiet 255)))
+unfolding sound every
+sound_in_turn m size few = rw (size, le-leb m.count 15 few) (simp (and_assoc, and-true))
 
 pub sound_facts : (m : Module) → sound m ≡ true → Sound m
 unfolding sound keys_sound

@@ -1,131 +1,84 @@
 // Soundness, as document 01 lists it.
 #![tactic(auto)]
 
-ghost use Rattle.std.specs.Prelude.{◌≡◌, true, false, not, ◌&&◌, ◌<◌, eqb};
-ghost use Rattle.words.specs.Words.{all_below};
-ghost use Rattle.keys.specs.Keys.{acceptable, in_size};
-ghost use Rattle.state.specs.Module.{queue};
-ghost use Rattle.sound.specs.Sound.{codes_sound, contact_sound, keys_sound, place_sound, rest_unused, sound};
+ghost use Rattle.std.specs.Prelude.{◌≡◌, true, not, ◌&&◌, ◌<◌, eqb};
+ghost use Rattle.words.specs.Words.{all, all_below};
+ghost use Rattle.keys.specs.Keys.{acceptable, in_size, key_in, key_of};
+ghost use Rattle.sound.specs.Sound.{contact_sound, keys_sound, place_sound, sound};
 
-use keys::{COLS, Col, KEYS, ROW_KEYS, ROWS, Row};
-use state::{Module, PLACES};
+use keys::{COLS, Col, ROW_KEYS, ROWS, Row};
+use state::Module;
+
+// The most that KBDMSK can be: a bit for each flag.
+const MASK: u8 = 0x0F;
 
 // Is a key open, with no run?
 fn at_rest(held: bool, run: u8) -> bool
     ensures { result ≡ (not held && eqb run 0) }
 {
-    if held {
-        return false;
-    }
-    run == 0
+    !held && run == 0
 }
 
 // What is asked of one key. Most are at rest, and need no look at the size.
 fn key_sound(size: u8, row: Row, col: Col, held: bool, run: u8) -> bool
     ensures { result ≡ contact_sound (in_size size row.0 col.0) held run }
 {
-    if 254 < run {
-        return false;
-    }
-    if at_rest(held, run) {
-        return true;
-    }
-    keys::is_in_size(size, row, col)
+    run <= 254 && (at_rest(held, run) || keys::is_in_size(size, row, col))
 }
 
 // What is asked of the keys of a row.
-fn row_sound<'a>(size: u8, row: u8, held: &'a [bool; KEYS], run: &'a [u8; KEYS]) -> bool
+fn row_sound(m: &Module, row: u8) -> bool
     requires { row < 8 }
-    ensures { result ≡ all_below (place_sound size row held.now run.now) 13 }
+    ensures { result ≡ all_below (place_sound m.now.size row m.now.held m.now.run) 13 }
 {
-    let mut col: u8 = 0;
-    while col < COLS {
+    for col in 0..COLS {
         let key = ROW_KEYS * (row as usize) + (col as usize);
-        if !key_sound(size, Row(row), Col(col), held[key], run[key]) {
+        if !key_sound(m.size, Row(row), Col(col), m.held[key], m.run[key]) {
             return false;
         }
-        col = col + 1;
     }
     true
 }
 
 // What is asked of all keys.
-fn keys_sound<'a>(size: u8, held: &'a [bool; KEYS], run: &'a [u8; KEYS]) -> bool
-    ensures { result ≡ keys_sound size held.now run.now }
+fn keys_sound(m: &Module) -> bool
+    ensures { result ≡ keys_sound m.now.size m.now.held m.now.run }
 {
-    let mut row: u8 = 0;
-    while row < ROWS {
-        if !row_sound(size, row, held, run) {
+    for row in 0..ROWS {
+        if !row_sound(m, row) {
             return false;
         }
-        row = row + 1;
     }
     true
 }
 
 // What is asked of the codes that wait.
-fn codes_sound(size: u8, places: &[u8; PLACES], count: u8) -> bool
+fn codes_sound(size: u8, codes: &[u8]) -> bool
     requires { acceptable size ≡ true }
-    ensures { result ≡ codes_sound size (queue places.now count false) }
+    ensures { result ≡ all (λ c. key_in size (key_of c)) codes.now }
 {
-    // a slice's length is known
-    let bytes: &[u8] = places;
-    let mut i: usize = 0;
-    while i < PLACES {
-        if count as usize <= i {
-            return true;
-        }
-        if !keys::is_code_in(size, bytes[i]) {
-            return false;
-        }
-        i = i + 1;
-    }
-    true
+    codes.iter().all(|code| keys::is_code_in(size, *code))
 }
 
 // What is asked of the places after them.
-fn rest_unused(places: &[u8; PLACES], count: u8) -> bool
-    ensures { result ≡ rest_unused (queue places.now count false) }
+fn rest_unused(places: &[u8]) -> bool
+    ensures { result ≡ all (λ c. eqb c 0x7F) places.now }
 {
-    // a slice's length is known
-    let bytes: &[u8] = places;
-    let mut i = count as usize;
-    while i < PLACES {
-        if bytes[i] != keys::NO_CODE {
-            return false;
-        }
-        i = i + 1;
-    }
-    true
+    places.iter().all(|place| *place == keys::NO_CODE)
 }
 
 // Is the state sound?
-pub fn is_sound(m: Module) -> bool
-    ensures { result ≡ sound m }
+pub fn is_sound(m: &Module) -> bool
+    ensures { result ≡ sound m.now }
 {
-    let size = m.size;
-    let count = m.count;
-    let mask = m.mask;
-    if !keys::is_acceptable(size) {
+    if !keys::is_acceptable(m.size) || state::FULL < m.count {
         return false;
     }
-    if !keys_sound(size, &m.held, &m.run) {
-        return false;
-    }
-    if state::FULL < count {
-        return false;
-    }
-    if !codes_sound(size, &m.queue, count) {
-        return false;
-    }
-    if !rest_unused(&m.queue, count) {
-        return false;
-    }
-    if 0x0F < mask {
-        return false;
-    }
-    if picture::all_read(m.seen) {
-        return false;
-    }
-    m.asleep == (m.quiet == state::sleep::ASLEEP)
+    let (codes, rest) = m.queue.split_at(m.count as usize);
+    keys_sound(m)
+        && codes_sound(m.size, codes)
+        && rest_unused(rest)
+        && m.mask <= MASK
+        && !picture::all_read(m.seen)
+        && m.asleep == (m.quiet == state::sleep::ASLEEP)
 }

@@ -5,7 +5,7 @@ pub mod queue;
 pub mod sleep;
 
 ghost use Rattle.std.specs.Prelude.{◌≡◌};
-ghost use Rattle.state.specs.Module.{fresh, restarted, woken};
+ghost use Rattle.state.specs.Module.{fresh, restarted};
 
 use keys::{KEYS, NO_CODE};
 use pins::Pins;
@@ -17,6 +17,7 @@ pub const PLACES: usize = 15;
 pub const FULL: u8 = PLACES as u8;
 
 // Key k is 13 × row + column. REVTINT, KBDMIS and the interrupt line are worked out, never stored.
+// kept: the C interface, and document 01: one struct by value, the queue's places with their count beside
 #[repr(C)]
 #[derive(Clone, Copy)]
 pub struct Module {
@@ -72,26 +73,22 @@ pub fn fresh() -> Module
     }
 }
 
-// The state after an accepted write of KBDSIZE.
-pub fn restarted(m: Module, size: u8) -> Module
-    ensures { result ≡ restarted m size }
-{
-    let mut next = fresh();
-    next.bounce = m.bounce;
-    next.size = size;
-    next.mask = m.mask;
-    next.porirq = m.porirq;
-    let pins = m.pins;
-    next.pins = pins;
-    next
-}
-
-// The state once the panel is awake, with nothing counted.
-pub fn woken(m: Module) -> Module
-    ensures { result ≡ woken m }
-{
-    let mut next = m;
-    next.quiet = 0;
-    next.asleep = false;
-    next
+impl Module {
+    // The state after an accepted write of KBDSIZE: all is as after reset but KBDBOUNCE, KBDMSK, PORIRQ and the pins.
+    pub fn restart(&mut self, size: u8)
+        ensures { self.new ≡ restarted self.old size }
+    {
+        let bounce = self.bounce;
+        let mask = self.mask;
+        let porirq = self.porirq;
+        let pins = self.pins;
+        *self = Module {
+            bounce,
+            size,
+            mask,
+            porirq,
+            pins,
+            ..fresh()
+        };
+    }
 }

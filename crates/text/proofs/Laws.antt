@@ -2,11 +2,10 @@
 --
 --    wrote_end, wrote_next               a text is written byte by byte
 --    listed_end, listed_next             bytes are listed one by one
+--    two_bytes                           a number of 16 bits as its two bytes
 --    hex_one, hex_two, hex_three, hex_four   a number of so many digits in base 16
---    up_to_end, up_to_yes, up_to_no      a line is passed up to a byte of one kind
---    up_to_most                          no further than the line's end
---    same_end, same_no, same_yes         two words of one length, compared byte by byte
---    same_apart                          words of two lengths are not the same
+--    up_to_position                      a line is passed up to the first byte of one kind, or its end
+--    same_pointwise                      two words are the same where their bytes are, one by one
 --    digits_end, digits_no, digits_yes   a word's digits, one by one
 --    told_most                           digits behind a number never make it smaller
 --    told_held                           digits behind a number that is held at a most tell the same up to that most
@@ -15,7 +14,7 @@
 --    number_none, number_no_digit, number_large, number_value   the four answers of `number_of`
 -- Assumes nothing.
 use Prim.Native.Nat.{ℕ, zero, suc, ◌+◌, ◌-◌, ◌*◌, ◌/◌, ◌%◌, ◌≤◌, ◌<◌, min}
-use native.Mathlib.Nat.{mul-le-mul, le-mul_of_pos_right, min-eq_left, min-eq_right, le_trans, le_of_lt}
+use native.Mathlib.Nat.{mul-le-mul, le-mul_of_pos_right, min-eq_left, min-eq_right, le_trans, le_of_lt, add_comm}
 use native.Mathlib.Numerals.{add-one, sub-one}
 use native.Mathlib.Omega.{arith}
 use mathlib.Core.Path.{◌≡◌, refl, sym, ap}
@@ -24,14 +23,20 @@ use mathlib.Core.List.{List, [], ◌∷◌, ◌++◌}
 use lib.ListN.{length, get_or, drop, drop_of_length-le}
 use lib.Seq.{drop-cons}
 use lib.Dec.{eqb, leb}
-use borrow.Author.Tests.{lt-ltb, le-ltb, eq-eqb, ne_eqb, leb-true, leb-false}
+use lib.Pointwise.{pointwise}
+use Rattle.std.proofs.Common.{w16}
+use Rattle.std.specs.Int.{to_be_bytes}
+use Rattle.std.proofs.lemmas.Grind.{common_steps}
+use Rattle.std.specs.List.{position_or_len}
+use Rattle.std.proofs.lemmas.List.Recursion.{is_position_or_len}
+use borrow.Author.Tests.{lt-ltb, le-ltb, leb-true, leb-false}
 use Rattle.text.specs.declared.page.Page.{Page}
 use Rattle.text.specs.Pages.{glyph, put, wrote, two_digits, hexadecimal, listed}
 use Rattle.text.specs.Line.{blank, up_to, same}
 use Rattle.words.specs.Words.{some}
 use Rattle.words.proofs.Laws.{all_end, all_at_no, all_at_yes}
 use Rattle.text.specs.declared.number.Fault.TheVariants.{TooFew, NoDigit, TooLarge}
-use Rattle.text.specs.declared.number.Number.TheVariants.{Value, Wrong}
+use Rattle.std.specs.Prelude.{Ok, Err}
 use Rattle.text.specs.Digits.{digit, digits, told, number_of, last_digits}
 
 module _ (p : Page) (t : List ℕ) (i : ℕ) where
@@ -52,72 +57,39 @@ module _ (p : Page) (l : List ℕ) (i : ℕ) where
   unfolding wrote listed two_digits
   listed_next h q r e f = rw (drop-cons l i 0 h, add-one i, f, e)
 
-module _ (p : Page) (n : ℕ) where
-  pub hex_one : n < 16 → (q : Page) → q ≡ put p (glyph (n % 256)) → q ≡ wrote p (hexadecimal n)
+-- a number's two bytes, the high one first
+pub two_bytes : (n : ℕ) → n < 65536 → (b : List ℕ) → b ≡ to_be_bytes w16 n → (get_or b 0 0 ≡ n / 256) × (get_or b 1 0 ≡ n % 256)
+two_bytes n h b e = rw e (grind (arith, common_steps))
+
+module _ (p : Page) (n high low : ℕ) (f : low ≡ n % 256) where
+  pub hex_one : n < 16 → (q : Page) → q ≡ put p (glyph low) → q ≡ wrote p (hexadecimal n)
   unfolding wrote hexadecimal
-  hex_one h q e = rw (lt-ltb n 16 h) e
+  hex_one h q e = rw (lt-ltb n 16 h, ← f) e
 
   module _ (h : 16 ≤ n) where
-    pub hex_two : n < 256 → (q : Page) → q ≡ wrote p (two_digits (n % 256)) → q ≡ wrote p (hexadecimal n)
+    pub hex_two : n < 256 → (q : Page) → q ≡ wrote p (two_digits low) → q ≡ wrote p (hexadecimal n)
     unfolding hexadecimal
-    hex_two l q e = rw (le-ltb n 16 h, lt-ltb n 256 l) e
+    hex_two l q e = rw (le-ltb n 16 h, lt-ltb n 256 l, ← f) e
 
-    module _ (k : 256 ≤ n) where
-      pub hex_three : n < 4096 → (q r : Page) → q ≡ put p (glyph (n / 256)) → r ≡ wrote q (two_digits (n % 256)) → r ≡ wrote p (hexadecimal n)
+    module _ (g : high ≡ n / 256) (k : 256 ≤ n) where
+      pub hex_three : n < 4096 → (q r : Page) → q ≡ put p (glyph high) → r ≡ wrote q (two_digits low) → r ≡ wrote p (hexadecimal n)
       unfolding wrote two_digits hexadecimal
-      hex_three l q r e f = rw (le-ltb n 16 h, le-ltb n 256 k, lt-ltb n 4096 l, ← e) f
+      hex_three l q r e i = rw (le-ltb n 16 h, le-ltb n 256 k, lt-ltb n 4096 l, ← f, ← g, ← e) i
 
-      pub hex_four : 4096 ≤ n → (q r : Page) → q ≡ wrote p (two_digits (n / 256)) → r ≡ wrote q (two_digits (n % 256)) → r ≡ wrote p (hexadecimal n)
+      pub hex_four : 4096 ≤ n → (q r : Page) → q ≡ wrote p (two_digits high) → r ≡ wrote q (two_digits low) → r ≡ wrote p (hexadecimal n)
       unfolding wrote two_digits hexadecimal
-      hex_four l q r e f = rw (le-ltb n 16 h, le-ltb n 256 k, le-ltb n 4096 l, ← e) f
+      hex_four l q r e i = rw (le-ltb n 16 h, le-ltb n 256 k, le-ltb n 4096 l, ← f, ← g, ← e) i
 
-pub up_to_most : (t : Bool) (l : List ℕ) → up_to t l ≤ length l
+pub up_to_position : (t : Bool) (l : List ℕ) → up_to t l ≡ position_or_len (λ b. beq (blank b) t) l
 unfolding up_to
-up_to_most t [] = omega arith
-up_to_most t (b ∷ l) = go (beq (blank b) t) refl (up_to_most t l)
-  where
-    go : (c : Bool) → beq (blank b) t ≡ c → up_to t l ≤ length l → up_to t (b ∷ l) ≤ length (b ∷ l)
-    go true e h = rw e (omega arith)
-    go false e h = rw e (omega arith)
+up_to_position t l = is_position_or_len (up_to t) (λ b. beq (blank b) t) refl (λ b m. rw (add_comm 1 (up_to t m), add-one (up_to t m))) l
 
-module _ (t : Bool) (l : List ℕ) (i : ℕ) where
-  pub up_to_end : length l ≤ i → up_to t (drop i l) ≡ 0
-  unfolding up_to
-  up_to_end h = rw (drop_of_length-le l h)
-
-  module _ (h : i < length l) (c : Bool) (e : c ≡ blank (get_or l i 0)) where
-    pub up_to_yes : beq c t ≡ true → up_to t (drop i l) ≡ 0
-    unfolding up_to
-    up_to_yes s = rw (drop-cons l i 0 h, ← e, s)
-
-    pub up_to_no : beq c t ≡ false → up_to t (drop i l) ≡ suc (up_to t (drop (i + 1) l))
-    unfolding up_to
-    up_to_no s = rw (drop-cons l i 0 h, ← e, s, add-one i)
-
-pub same_apart : (a b : List ℕ) → (length a ≡ length b → ⊥) → same a b ≡ false
+pub same_pointwise : (a b : List ℕ) → pointwise eqb a b ≡ same a b
 unfolding same
-same_apart [] [] h = absurd (h refl)
-same_apart [] (y ∷ b) h = refl
-same_apart (x ∷ a) [] h = refl
-same_apart (x ∷ a) (y ∷ b) h = rw (same_apart a b (λ e. h (ap suc e))) (and_no (eqb x y))
-  where
-    and_no : (c : Bool) → (c && false) ≡ false
-    and_no true = refl
-    and_no false = refl
-
-module _ (a b : List ℕ) (i : ℕ) where
-  pub same_end : length a ≤ i → length b ≤ i → same (drop i a) (drop i b) ≡ true
-  unfolding same
-  same_end h k = rw (drop_of_length-le a h, drop_of_length-le b k)
-
-  module _ (h : i < length a) (k : i < length b) where
-    pub same_no : (get_or a i 0 ≡ get_or b i 0 → ⊥) → same (drop i a) (drop i b) ≡ false
-    unfolding same
-    same_no n = rw (drop-cons a i 0 h, drop-cons b i 0 k, ne_eqb _ _ n)
-
-    pub same_yes : get_or a i 0 ≡ get_or b i 0 → same (drop i a) (drop i b) ≡ same (drop (i + 1) a) (drop (i + 1) b)
-    unfolding same
-    same_yes e = rw (drop-cons a i 0 h, drop-cons b i 0 k, eq-eqb _ _ e, add-one i)
+same_pointwise [] [] = refl
+same_pointwise [] (y ∷ b) = refl
+same_pointwise (x ∷ a) [] = refl
+same_pointwise (x ∷ a) (y ∷ b) = ap (λ r. eqb x y && r) (same_pointwise a b)
 
 module _ (base : ℕ) (w : List ℕ) (i : ℕ) where
   pub digits_end : length w ≤ i → digits base (drop i w) ≡ true
@@ -169,22 +141,22 @@ unfolding some
 some_of [] h = absurd (omega arith)
 some_of (b ∷ w) h = refl
 
-pub number_none : (base most : ℕ) (w : List ℕ) → length w < 1 → Wrong TooFew ≡ number_of base most w
+pub number_none : (base most : ℕ) (w : List ℕ) → length w < 1 → Err TooFew ≡ number_of base most w
 unfolding number_of some
 number_none base most [] h = refl
 number_none base most (b ∷ w) h = absurd (omega arith)
 
 module _ (base most : ℕ) (w : List ℕ) (h : 1 ≤ length w) where
-  pub number_no_digit : digits base w ≡ false → Wrong NoDigit ≡ number_of base most w
+  pub number_no_digit : digits base w ≡ false → Err NoDigit ≡ number_of base most w
   unfolding number_of
   number_no_digit e = rw (some_of w h, e)
 
   module _ (e : digits base w ≡ true) where
-    pub number_large : most < told base 0 w → Wrong TooLarge ≡ number_of base most w
+    pub number_large : most < told base 0 w → Err TooLarge ≡ number_of base most w
     unfolding number_of
     number_large l = rw (some_of w h, e, lt-ltb most (told base 0 w) l)
 
-    pub number_value : (v : ℕ) → told base 0 w ≡ v → v ≤ most → Value v ≡ number_of base most w
+    pub number_value : (v : ℕ) → told base 0 w ≡ v → v ≤ most → Ok v ≡ number_of base most w
     unfolding number_of
     number_value v f l = rw (some_of w h, e, f, le-ltb most v l)
 

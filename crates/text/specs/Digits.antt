@@ -6,11 +6,10 @@
 --    number_of base most w    the number of a word, which is at most `most`, or what is wrong with it
 --    last_digits k n      the last k digits of n in base 10, or all if it has fewer
 --    decimal n            the digits of n in base 10: ten are enough below 2^32
-use Rattle.std.specs.Prelude.{ℕ, zero, suc, ◌+◌, ◌-◌, ◌*◌, ◌/◌, ◌%◌, Bool, ◌&&◌, not, List, [], ◌∷◌, ◌++◌, ltb, leb}
+use Rattle.std.specs.Prelude.{ℕ, zero, suc, ◌+◌, ◌-◌, ◌*◌, ◌/◌, ◌%◌, Bool, ◌&&◌, not, List, [], ◌∷◌, ◌++◌, ltb, leb, Result, Ok, Err}
 use Rattle.words.specs.Words.{◌if◌, ◌else◌, all, some}
+use Rattle.text.specs.declared.number.Fault.{Fault}
 use Rattle.text.specs.declared.number.Fault.TheVariants.{TooFew, NoDigit, TooLarge}
-use Rattle.text.specs.declared.number.Number.{Number}
-use Rattle.text.specs.declared.number.Number.TheVariants.{Value, Wrong}
 
 -- "0" to "9", "A" to "F", "a" to "f"
 unfoldable pub digit : ℕ → ℕ
@@ -26,12 +25,12 @@ unfoldable pub told : ℕ → ℕ → List ℕ → ℕ
 told base v [] = v
 told base v (b ∷ w) = told base (v * base + digit b) w
 
-unfoldable pub number_of : ℕ → ℕ → List ℕ → Number
+unfoldable pub number_of : ℕ → ℕ → List ℕ → Result ℕ Fault
 number_of base most w =
-    Wrong TooFew if not (some w) else
-    (Wrong NoDigit if not (digits base w) else
-    (Wrong TooLarge if ltb most (told base 0 w) else
-    Value (told base 0 w)))
+    Err TooFew if not (some w) else
+    (Err NoDigit if not (digits base w) else
+    (Err TooLarge if ltb most (told base 0 w) else
+    Ok (told base 0 w)))
 
 unfoldable pub last_digits : ℕ → ℕ → List ℕ
 last_digits zero n = []

@@ -1,23 +1,19 @@
 // Lines: what stands between newlines.
 ghost use Rattle.std.specs.Prelude.{◌≤◌, length};
 
-pub const NEWLINE: u8 = 10;
+pub const NEWLINE: u8 = b'\n';
 
-const RETURN: u8 = 13;
+const RETURN: u8 = b'\r';
 
 // The place of the next byte of this kind, from one on; the input's end if there is none.
 pub fn next_from(input: &[u8], from: usize, wanted: u8) -> usize
     requires { from ≤ length input.now }
     ensures { (from ≤ result) × (result ≤ length input.now) }
 {
-    let mut i = from;
-    while i < input.len() {
-        if input[i] == wanted {
-            return i;
-        }
-        i = i + 1;
+    match input[from..].iter().position(|byte| *byte == wanted) {
+        Some(i) => from + i,
+        None => input.len(),
     }
-    i
 }
 
 // The place of the next newline, from one on; the input's end if there is none.
@@ -32,12 +28,8 @@ pub fn newline_from(input: &[u8], from: usize) -> usize
 pub fn without_return(line: &[u8]) -> usize
     ensures { result ≤ length line.now }
 {
-    let n = line.len();
-    if n < 1 {
-        return n;
+    match line {
+        [.., RETURN] => line.len() - 1,
+        _ => line.len(),
     }
-    if line[n - 1] == RETURN {
-        return n - 1;
-    }
-    n
 }

@@ -1,11 +1,9 @@
 // Numbers, judged by their value however many digits they have.
-ghost use Rattle.std.specs.Prelude.{◌≡◌, ◌≤◌};
+ghost use Rattle.std.specs.Prelude.{◌≡◌, ◌≤◌, ◌<◌, MatchOption, MatchResult};
 ghost use Rattle.text.specs.Digits.{digit, number_of};
 
-use crate::page;
-
 // What is wrong with a line.
-#[derive(Clone, Copy)]
+#[derive(Clone, Copy, Debug, PartialEq, Eq)]
 pub enum Fault {
     TooFew,
     TooMany,
@@ -16,46 +14,42 @@ pub enum Fault {
     Odd,
 }
 
-#[derive(Clone, Copy)]
-pub enum Number {
-    Value(u32),
-    Wrong(Fault),
+// A digit's value, in either base.
+pub fn digit_of(byte: u8) -> Option<usize>
+    ensures { MatchOption result (digit byte ≡ 16) (λ value. (value ≡ digit byte) × (value < 16)) }
+{
+    char::from(byte).to_digit(16).map(|value| value as usize)
 }
 
-// A digit's value; 16 if it is none, in either base.
-pub fn digit_of(byte: u8) -> usize
-    ensures { (result ≡ digit byte) × (result ≤ 16) }
+// A digit's value in a base.
+fn digit_in(base: usize, byte: u8) -> Result<usize, Fault>
+    requires { base ≤ 16 }
+    ensures { MatchResult result (λ value. (value ≡ digit byte) × (value < base)) (λ fault. (fault ≡ Fault.NoDigit) × (base ≤ digit byte)) }
 {
-    match byte {
-        48..=57 => (byte - 48) as usize,
-        65..=70 => (byte - 55) as usize,
-        97..=102 => (byte - 87) as usize,
-        _ => 16,
+    match digit_of(byte) {
+        Some(value) if value < base => Ok(value),
+        _ => Err(Fault::NoDigit),
     }
 }
 
 // The number that a word's digits tell, which is at most this; a word of no digits is missing.
-pub fn number_of(word: &[u8], base: usize, most: u32) -> Number
+// kept: the library's `from_str_radix` takes a plus sign, and refuses a long word before it has read all its digits.
+pub fn number_of(word: &[u8], base: usize, most: u32) -> Result<u32, Fault>
     requires { base ≤ 16 }
     ensures { result ≡ number_of base most word.now }
 {
-    if word.len() < 1 {
-        return Number::Wrong(Fault::TooFew);
+    if word.is_empty() {
+        return Err(Fault::TooFew);
     }
-    let over = (most as usize) + 1;
-    let mut value: usize = 0;
-    let mut i: usize = 0;
-    while i < word.len() {
-        let digit = digit_of(word[i]);
-        if base <= digit {
-            return Number::Wrong(Fault::NoDigit);
-        }
+    let over = most as usize + 1;
+    let mut value = 0;
+    for byte in word {
         // once above the most it stays above, and never wraps
-        value = page::least(value * base + digit, over);
-        i = i + 1;
+        value = (value * base + digit_in(base, *byte)?).min(over);
     }
     if value == over {
-        return Number::Wrong(Fault::TooLarge);
+        Err(Fault::TooLarge)
+    } else {
+        Ok(value as u32)
     }
-    Number::Value(value as u32)
 }

@@ -9,7 +9,7 @@
 --    stands_where                   of a list that is not declined, what is right at a place is the answer there
 --    walk_chain                     what the walk hands out is what the question answers, place after place
 --    walk_number                    the walk's number is that of the question at the list's end
---    stands-.., stretch-.., walk-..  the same as the calls have it
+--    stands-.., stretch-.., walk-..  the same as the calls have it; answered-.., what a test of the tags shows of an answer
 -- Assumes nothing.
 use Prim.Native.Nat.{ℕ, ◌+◌, ◌<◌, ◌≤◌}
 use native.Mathlib.Omega.{arith}
@@ -20,19 +20,24 @@ use mathlib.Core.List.{List, [], ◌∷◌, ◌++◌, append_assoc, append-nil}
 use lib.ListN.{length, length-append}
 use lib.Dec.{eqb, ltb}
 use borrow.Author.Tests.{eqb-true, eqb-false, eq-eqb, ne_eqb, ltb-true, ltb-false, lt-ltb, le-ltb, not-true}
+use Rattle.std.specs.Prelude.{Result, Ok, Err}
+use Rattle.std.specs.Result.{result_unwrap_or}
 use Rattle.words.specs.Words.{all}
 use Rattle.keys.specs.Keys.{is_code}
 use Rattle.keys.specs.Replay.{legal}
 use Rattle.words.proofs.Laws.{true_false, and_left, and_right, and_both}
 use Rattle.numbers.specs.Numbers.{◌gives◌, number_of, Given, done, beyond_end, bad_code, bad_change, inside_group}
-use Rattle.numbers.proofs.Laws.{given, only, declining, first_decides, rest_decides, line_false, line_yes, line_no, lines_end}
+use Rattle.numbers.specs.declared.Refusal.{Refusal}
+use Rattle.numbers.specs.Refusals.{number}
+use Rattle.numbers.proofs.Laws.{given, only, declining, first_decides, rest_decides, line_false, line_yes, line_no, lines_end, refused}
 use Rattle.undo.specs.Groups.{groups_of, joined, ends_with_release}
 use Rattle.undo.specs.Stands.{values_of, Mark, mark, marks_of, begins, stand_at, Stands, is_trim, lines, stands_by, stands, first_in, end_in}
 use Rattle.undo.specs.Walk.{ends_from, walk_lines, handed, walk_by, walk_call, over, walk_buffer}
 use Rattle.undo.specs.Places.{place_lines}
 use Rattle.undo.specs.Exactly.{Begins, Right, StandExact}
-use Rattle.undo.specs.declared.Stand.{Stand}
-use Rattle.undo.specs.declared.Stand.TheVariants.{Group, Open, Nothing, Declined}
+use Rattle.undo.specs.Answers.{Stand, Group, Open, Nothing, Declined, stood, answered}
+use Rattle.undo.specs.declared.Stand as found
+use Rattle.undo.specs.declared.Stand.TheVariants as found-
 use Rattle.undo.proofs.Groups.{covers}
 use Rattle.undo.proofs.Marks.{stand_only, stands_right, right_stands, end_stands, stand_begins, begins_stands, marks_within}
 
@@ -259,28 +264,36 @@ walk_number ended trim s =
 
 -- ---- as the calls have it
 
-module _ (trim : ℕ) (s : List ℕ) (p n : ℕ) (judged : n ≡ number_of (place_lines trim s p)) where
-  pub stands_declined : (n ≡ done → ⊥) → Declined n ≡ stands trim s p
+module _ (trim : ℕ) (s : List ℕ) (p : ℕ) where
+  pub stands_declined : (r : Refusal) → number r ≡ number_of (place_lines trim s p) → Declined (number r) ≡ stands trim s p
   unfolding stands
-  stands_declined d = ap (λ (k : ℕ). Declined k) judged ∙ place_declined (ends_with_release trim) trim s p (λ h. d (judged ∙ h))
+  stands_declined r judged = ap (λ (k : ℕ). Declined k) judged ∙ place_declined (ends_with_release trim) trim s p (λ h. refused r (judged ∙ h))
 
-  pub stands_done : n ≡ done → (p ≤ length s) × (stand_at p (marks_of (ends_with_release trim) trim s) ≡ stands trim s p)
+  pub stands_done : done ≡ number_of (place_lines trim s p) → (p ≤ length s) × (stand_at p (marks_of (ends_with_release trim) trim s) ≡ stands trim s p)
   unfolding stands
-  stands_done d = place_done (ends_with_release trim) trim s p (sym judged ∙ d)
+  stands_done judged = place_done (ends_with_release trim) trim s p (sym judged)
 
-module _ (trim : ℕ) (s : List ℕ) (p : ℕ) (x : Stand) (stood : x ≡ stands trim s p) where
+-- an answer that is no finished group leads to the empty stretch at the list's front
+pub no_part : (x : Stand) → ((f e : ℕ) → x ≡ Group f e → ⊥) → (first_in x ≡ 0) × (end_in x ≡ 0)
+unfolding first_in end_in
+no_part (Group f e) k = absurd (k f e refl)
+no_part (Open q) k = (refl, refl)
+no_part Nothing k = (refl, refl)
+no_part (Declined n) k = (refl, refl)
+
+module _ (trim : ℕ) (s : List ℕ) (p : ℕ) (x : Stand) (stood-there : x ≡ stands trim s p) where
   pub stretch_within : (f e : ℕ) → x ≡ Group f e → (f ≤ e) × (e ≤ length s)
   unfolding stands
-  stretch_within f e h = stand_within (ends_with_release trim) trim s p f e (sym stood ∙ h)
+  stretch_within f e h = stand_within (ends_with_release trim) trim s p f e (sym stood-there ∙ h)
 
   pub stretch_of : (f e : ℕ) → x ≡ Group f e → (first_in (stands trim s p) ≡ f) × (end_in (stands trim s p) ≡ e)
   unfolding first_in end_in
-  stretch_of f e h = (ap first_in (sym stood ∙ h), ap end_in (sym stood ∙ h))
+  stretch_of f e h = (ap first_in (sym stood-there ∙ h), ap end_in (sym stood-there ∙ h))
 
   -- the stretch lies within the list, whatever stands there
   pub stretch_lies : (first_in (stands trim s p) ≤ end_in (stands trim s p)) × (end_in (stands trim s p) ≤ length s)
   unfolding first_in end_in
-  stretch_lies = subst (λ (y : Stand). (first_in y ≤ end_in y) × (end_in y ≤ length s)) stood (lies x refl)
+  stretch_lies = subst (λ (y : Stand). (first_in y ≤ end_in y) × (end_in y ≤ length s)) stood-there (lies x refl)
     where
       lies : (y : Stand) → x ≡ y → (first_in y ≤ end_in y) × (end_in y ≤ length s)
       lies (Group f e) h = stretch_within f e h
@@ -289,27 +302,33 @@ module _ (trim : ℕ) (s : List ℕ) (p : ℕ) (x : Stand) (stood : x ≡ stands
       lies (Declined n) h = (omega arith, omega arith)
 
   pub stretch_none : ((f e : ℕ) → x ≡ Group f e → ⊥) → (first_in (stands trim s p) ≡ 0) × (end_in (stands trim s p) ≡ 0)
-  unfolding first_in end_in
-  stretch_none k = (ap first_in (sym stood) ∙ first x k, ap end_in (sym stood) ∙ end x k)
-    where
-      first : (y : Stand) → ((f e : ℕ) → y ≡ Group f e → ⊥) → first_in y ≡ 0
-      first (Group f e) i = absurd (i f e refl)
-      first (Open q) i = refl
-      first Nothing i = refl
-      first (Declined n) i = refl
+  stretch_none k = let none = no_part x k in (ap first_in (sym stood-there) ∙ none.0, ap end_in (sym stood-there) ∙ none.1)
 
-      end : (y : Stand) → ((f e : ℕ) → y ≡ Group f e → ⊥) → end_in y ≡ 0
-      end (Group f e) i = absurd (i f e refl)
-      end (Open q) i = refl
-      end Nothing i = refl
-      end (Declined n) i = refl
+-- the group that was found, the end standing for a question that is declined, is the answer; where none was found, no group is
+pub answered_group : (x : Result found.Stand Refusal) (f e : ℕ) → result_unwrap_or x found-.Nothing ≡ found-.Group f e → answered x ≡ Group f e
+answered_group (Ok y) f e k = ap stood k
+answered_group (Err r) f e k = cc
 
-module _ (trim : ℕ) (s : List ℕ) (n : ℕ) (judged : n ≡ number_of (walk_lines trim s)) where
-  pub walk_declined : (n ≡ done → ⊥) → (out : List ℕ) → (record { number = n; groups = 0; tail = 0 } ≡ walk_call trim s) × (out ≡ walk_buffer trim s out)
+pub answered_other : (x : Result found.Stand Refusal) → ((f e : ℕ) → result_unwrap_or x found-.Nothing ≡ found-.Group f e → ⊥) → (f e : ℕ) → answered x ≡ Group f e → ⊥
+answered_other (Ok (found-.Group a b)) h f e k = h a b refl
+answered_other (Ok (found-.Open q)) h f e k = cc
+answered_other (Ok found-.Nothing) h f e k = cc
+answered_other (Err r) h f e k = cc
+
+module _ (trim : ℕ) (s : List ℕ) where
+  module _ (r : Refusal) (judged : number r ≡ number_of (walk_lines trim s)) where
+    not_done : eqb (number_of (walk_lines trim s)) 0 ≡ false
+    not_done = ne_eqb (number_of (walk_lines trim s)) 0 (λ h. refused r (judged ∙ h))
+
+    pub walk_declined : record { number = number r; groups = 0; tail = 0 } ≡ walk_call trim s
+    unfolding walk_call walk_by
+    walk_declined = rw not_done (ap (λ (k : ℕ). record { number = k; groups = 0; tail = 0 }) judged)
+
+    pub buffer_declined : (out : List ℕ) → out ≡ walk_buffer trim s out
+    unfolding walk_buffer
+    buffer_declined out = rw not_done
+
+  pub walk_done : done ≡ number_of (walk_lines trim s) → (out : List ℕ)
+      → (handed (groups_of (ends_with_release trim) trim s) ≡ walk_call trim s) × (over (ends_from 0 (groups_of (ends_with_release trim) trim s).groups) out ≡ walk_buffer trim s out)
   unfolding walk_call walk_by walk_buffer
-  walk_declined d out = let no-done = ne_eqb (number_of (walk_lines trim s)) 0 (λ h. d (judged ∙ h)) in
-      (rw no-done (ap (λ (k : ℕ). record { number = k; groups = 0; tail = 0 }) judged), rw no-done)
-
-  pub walk_done : n ≡ done → (out : List ℕ) → (handed (groups_of (ends_with_release trim) trim s) ≡ walk_call trim s) × (over (ends_from 0 (groups_of (ends_with_release trim) trim s).groups) out ≡ walk_buffer trim s out)
-  unfolding walk_call walk_by walk_buffer
-  walk_done d out = let is-done = eq-eqb (number_of (walk_lines trim s)) 0 (sym judged ∙ d) in (rw is-done, rw is-done)
+  walk_done judged out = let is-done = eq-eqb (number_of (walk_lines trim s)) 0 (sym judged) in (rw is-done, rw is-done)

@@ -9,8 +9,7 @@ use mathlib.Core.Path.{◌≡◌, refl}
 use mathlib.Core.List.{List, [], ◌∷◌, map}
 use Rattle.undo.specs.Stands.{stands}
 use Rattle.undo.specs.Walk.{walk_call, walk_buffer}
-use Rattle.undo.specs.declared.Stand.{Stand}
-use Rattle.undo.specs.declared.Stand.TheVariants.{Group, Open, Nothing, Declined}
+use Rattle.undo.specs.Answers.{Stand, Group, Open, Nothing, Declined}
 use Rattle.undo.proofs.Opened.{opened}
 
 -- 21 before; the trim key with 32 pressed inside and let go late; 21 let go; the trim key again, still down

@@ -23,15 +23,15 @@ use lib.ListN.{length, take, drop, get_or, set, length-append, length-drop, leng
 use lib.Seq.{take-suc, drop-cons, get_or-drop, drop-drop}
 use lib.Dec.{eqb}
 use borrow.Author.Tests.{eq-eqb, ne_eqb}
-use Rattle.words.proofs.Laws.{true_false}
 use Rattle.numbers.specs.Numbers.{done, inside_group}
 use Rattle.codes.specs.Codes.{opposite}
 use Rattle.undo.specs.Groups.{Cut, more, cut, groups_of, joined, In, last_is, ends_with_release}
 use Rattle.undo.specs.Stands.{Mark, mark, tail_from, marks_from, marks_of, stand_at}
 use Rattle.undo.specs.Walk.{ends_from, handed, over}
 use Rattle.undo.specs.Places.{standing, next_at}
-use Rattle.undo.specs.declared.Stand.{Stand}
-use Rattle.undo.specs.declared.Stand.TheVariants.{Group, Open, Nothing, Declined}
+use Rattle.undo.specs.Answers.{Group, Open, Nothing, Declined, stood}
+use Rattle.undo.specs.declared.Stand as found
+use Rattle.undo.specs.declared.Stand.TheVariants as found-
 use Rattle.undo.proofs.Groups.{covers, a_group, group_some, cut_finished, cut_outside, cut_inside, groups_first}
 use Rattle.undo.proofs.Marks.{stand_only, end_stands, stand_earlier}
 use Rattle.undo.proofs.Exact.{stand_none}
@@ -41,25 +41,6 @@ unfolding last_is
 last_is_lem c x [] = refl
 last_is_lem c x (y ∷ []) = refl
 last_is_lem c x (y ∷ z ∷ g) = last_is_lem c x (z ∷ g)
-
--- the group's first place, and the place after it
-first_of : Stand → ℕ
-first_of (Group f e) = f
-first_of (Open p) = 0
-first_of Nothing = 0
-first_of (Declined n) = 0
-
-end_of : Stand → ℕ
-end_of (Group f e) = e
-end_of (Open p) = 0
-end_of Nothing = 0
-end_of (Declined n) = 0
-
-is_group : Stand → Bool
-is_group (Group f e) = true
-is_group (Open p) = false
-is_group Nothing = false
-is_group (Declined n) = false
 
 -- ---- the buffer
 
@@ -201,30 +182,26 @@ module _ (ended : List ℕ → Bool) (trim : ℕ) (s : List ℕ) where
       (g, (r.0 ∙ ap (λ (x : List ℕ). more g (groups_of ended trim x)) (drop-drop (length g) at s), (refl, (omega arith, omega arith))))
 
   stands_group : (at : ℕ) (gs : List (List ℕ)) (t : List ℕ) (f e : ℕ) → (groups_of ended trim (drop at s)).groups ≡ gs → Group f e ≡ standing at gs t → (f ≡ at) × Grouped at e
-  unfolding standing first_of end_of is_group
-  stands_group at [] [] f e h k = true_false (ap is_group k)
-  stands_group at [] (c ∷ t) f e h k = true_false (ap is_group k)
-  stands_group at (g ∷ gs) t f e h k = (ap first_of k, subst (λ (n : ℕ). Grouped at n) (sym (ap end_of k)) (grouped_from at g gs h))
+  unfolding standing
+  stands_group at [] [] f e h k = cc
+  stands_group at [] (c ∷ t) f e h k = cc
+  stands_group at (g ∷ gs) t f e h k = let same : at + length g ≡ e = cc in (cc, subst (λ (n : ℕ). Grouped at n) same (grouped_from at g gs h))
 
-  pub next_group : (at f e : ℕ) (x : Stand) → x ≡ next_at ended trim s at → x ≡ Group f e → (f ≡ at) × Grouped at e
+  pub next_group : (at f e : ℕ) → Group f e ≡ next_at ended trim s at → (f ≡ at) × Grouped at e
   unfolding next_at
-  next_group at f e x h k = stands_group at (groups_of ended trim (drop at s)).groups (groups_of ended trim (drop at s)).tail f e refl (sym k ∙ h)
+  next_group at f e h = stands_group at (groups_of ended trim (drop at s)).groups (groups_of ended trim (drop at s)).tail f e refl h
 
-  no_group : (at : ℕ) (gs : List (List ℕ)) (t : List ℕ) → is_group (standing at gs t) ≡ false → gs ≡ []
-  unfolding standing is_group
-  no_group at [] t h = refl
-  no_group at (g ∷ gs) t h = true_false h
+  stops : (at : ℕ) (gs : List (List ℕ)) (t : List ℕ) (x : found.Stand) → stood x ≡ standing at gs t → ((f e : ℕ) → x ≡ found-.Group f e → ⊥) → gs ≡ []
+  unfolding standing
+  stops at [] t x h k = refl
+  stops at (g ∷ gs) t (found-.Group f e) h k = absurd (k f e refl)
+  stops at (g ∷ gs) t (found-.Open p) h k = cc
+  stops at (g ∷ gs) t found-.Nothing h k = cc
 
   -- where a test of the tag showed that it is no group, there is none from here on
-  pub next_stops : (at : ℕ) (x : Stand) → x ≡ next_at ended trim s at → ((f e : ℕ) → x ≡ Group f e → ⊥) → (groups_of ended trim (drop at s)).groups ≡ []
-  unfolding next_at is_group
-  next_stops at x h k = no_group at _ _ (ap is_group (sym h) ∙ other x k)
-    where
-      other : (y : Stand) → ((f e : ℕ) → y ≡ Group f e → ⊥) → is_group y ≡ false
-      other (Group f e) i = absurd (i f e refl)
-      other (Open p) i = refl
-      other Nothing i = refl
-      other (Declined n) i = refl
+  pub next_stops : (at : ℕ) (x : found.Stand) → stood x ≡ next_at ended trim s at → ((f e : ℕ) → x ≡ found-.Group f e → ⊥) → (groups_of ended trim (drop at s)).groups ≡ []
+  unfolding next_at
+  next_stops at x h k = stops at _ _ x h k
 
   pub groups_past : (at : ℕ) → length s ≤ at → (groups_of ended trim (drop at s)).groups ≡ []
   unfolding groups_of cut

@@ -18,20 +18,10 @@ use lib.Dec.{eqb}
 use borrow.Author.Tests.{eqb-true, eq-eqb, ne_eqb}
 use Rattle.words.proofs.Laws.{true_false}
 use Rattle.undo.specs.Groups.{groups_of, joined, In}
-use Rattle.undo.specs.Stands.{values_of, Mark, mark, tail_from, marks_from, marks_of, begins, stand_at, Stands}
+use Rattle.undo.specs.Stands.{Mark, mark, tail_from, marks_from, marks_of, begins, stand_at, Stands}
 use Rattle.undo.specs.Exactly.{Begins, Right}
-use Rattle.undo.specs.declared.Stand.{Stand}
-use Rattle.undo.specs.declared.Stand.TheVariants.{Group, Open, Nothing, Declined}
+use Rattle.undo.specs.Answers.{Stand, Group, Open, Nothing, Declined}
 use Rattle.undo.proofs.Groups.{covers, a_group, group_some}
-
-kind : Stand → ℕ
-kind (Group f e) = 0
-kind (Open p) = 1
-kind Nothing = 2
-kind (Declined n) = 3
-
-differ : {A : Type 0} (x y : Stand) → x ≡ y → (kind x ≡ kind y → ⊥) → A
-differ x y h d = absurd (d (ap kind h))
 
 -- `Begins` of groups of which the first is at a place
 BeginsFrom : ℕ → ℕ → ℕ → List (List ℕ) → Type 0
@@ -39,16 +29,16 @@ BeginsFrom at p e gs =
     (before : List (List ℕ)) × ((g : List ℕ) × ((after : List (List ℕ)) × ((gs ≡ before ++ (g ∷ after)) × ((p ≡ at + length (joined before)) × (e ≡ p + length g)))))
 
 group_at : (p f e at : ℕ) (gs : List (List ℕ)) (t : List ℕ) → Stands p (Group f e) (marks_from at gs t) → (f ≡ p) × BeginsFrom at p e gs
-unfolding Stands marks_from tail_from joined kind values_of BeginsFrom
-group_at p f e at [] [] (inl h) = differ (Group f e) Nothing h.1 (λ k. omega arith)
+unfolding Stands marks_from tail_from joined BeginsFrom
+group_at p f e at [] [] (inl h) = cc
 group_at p f e at [] [] (inr i) = absurd i
-group_at p f e at [] (c ∷ t) (inl h) = differ (Group f e) (Open at) h.1 (λ k. omega arith)
-group_at p f e at [] (c ∷ t) (inr (inl h)) = differ (Group f e) Nothing h.1 (λ k. omega arith)
+group_at p f e at [] (c ∷ t) (inl h) = cc
+group_at p f e at [] (c ∷ t) (inr (inl h)) = cc
 group_at p f e at [] (c ∷ t) (inr (inr i)) = absurd i
 group_at p f e at (g ∷ gs) t (inl h) =
     let same : p ≡ at = h.0 in
-    let first : f ≡ at = ap (λ (y : Stand). (values_of y).first) h.1 in
-    let end : e ≡ at + length g = ap (λ (y : Stand). (values_of y).end) h.1 in
+    let first : f ≡ at = cc in
+    let end : e ≡ at + length g = cc in
     (omega arith, ([], (g, (gs, (refl, (omega arith, omega arith))))))
 group_at p f e at (g ∷ gs) t (inr i) =
     let r = group_at p f e (at + length g) gs t i in
@@ -58,41 +48,41 @@ group_at p f e at (g ∷ gs) t (inr i) =
     (r.0, ((g ∷ b), (r.1.1.0, (r.1.1.1.0, (ap (λ (x : List (List ℕ)). g ∷ x) r.1.1.1.1.0, (omega arith, r.1.1.1.1.1.1))))))
 
 nothing_at : (p at : ℕ) (gs : List (List ℕ)) (t : List ℕ) → Stands p Nothing (marks_from at gs t) → p ≡ at + length (joined gs ++ t)
-unfolding Stands marks_from tail_from joined kind
+unfolding Stands marks_from tail_from joined
 nothing_at p at [] [] (inl h) = let e : p ≡ at = h.0 in omega arith
 nothing_at p at [] [] (inr i) = absurd i
-nothing_at p at [] (c ∷ t) (inl h) = differ Nothing (Open at) h.1 (λ k. omega arith)
+nothing_at p at [] (c ∷ t) (inl h) = cc
 nothing_at p at [] (c ∷ t) (inr (inl h)) = h.0
 nothing_at p at [] (c ∷ t) (inr (inr i)) = absurd i
-nothing_at p at (g ∷ gs) t (inl h) = differ Nothing (Group at (at + length g)) h.1 (λ k. omega arith)
+nothing_at p at (g ∷ gs) t (inl h) = cc
 nothing_at p at (g ∷ gs) t (inr i) =
     let r : p ≡ at + length g + length (joined gs ++ t) = nothing_at p (at + length g) gs t i in
     rw (append_assoc g (joined gs) t, length-append g (joined gs ++ t)) (omega arith)
 
 open_at : (p q at : ℕ) (gs : List (List ℕ)) (t : List ℕ) → Stands p (Open q) (marks_from at gs t) → (q ≡ p) × ((p ≡ at + length (joined gs)) × (0 < length t))
-unfolding Stands marks_from tail_from joined kind values_of
-open_at p q at [] [] (inl h) = differ (Open q) Nothing h.1 (λ k. omega arith)
+unfolding Stands marks_from tail_from joined
+open_at p q at [] [] (inl h) = cc
 open_at p q at [] [] (inr i) = absurd i
 open_at p q at [] (c ∷ t) (inl h) =
     let same : p ≡ at = h.0 in
-    let first : q ≡ at = ap (λ (y : Stand). (values_of y).first) h.1 in
+    let first : q ≡ at = cc in
     (omega arith, (omega arith, omega arith))
-open_at p q at [] (c ∷ t) (inr (inl h)) = differ (Open q) Nothing h.1 (λ k. omega arith)
+open_at p q at [] (c ∷ t) (inr (inl h)) = cc
 open_at p q at [] (c ∷ t) (inr (inr i)) = absurd i
-open_at p q at (g ∷ gs) t (inl h) = differ (Open q) (Group at (at + length g)) h.1 (λ k. omega arith)
+open_at p q at (g ∷ gs) t (inl h) = cc
 open_at p q at (g ∷ gs) t (inr i) =
     let r = open_at p q (at + length g) gs t i in
     let l : p ≡ at + length g + length (joined gs) = r.1.0 in
     (r.0, (rw (length-append g (joined gs)) (omega arith), r.1.1))
 
 declined_at : (p n at : ℕ) (gs : List (List ℕ)) (t : List ℕ) → Stands p (Declined n) (marks_from at gs t) → ⊥
-unfolding Stands marks_from tail_from kind
-declined_at p n at [] [] (inl h) = differ (Declined n) Nothing h.1 (λ k. omega arith)
+unfolding Stands marks_from tail_from
+declined_at p n at [] [] (inl h) = cc
 declined_at p n at [] [] (inr i) = i
-declined_at p n at [] (c ∷ t) (inl h) = differ (Declined n) (Open at) h.1 (λ k. omega arith)
-declined_at p n at [] (c ∷ t) (inr (inl h)) = differ (Declined n) Nothing h.1 (λ k. omega arith)
+declined_at p n at [] (c ∷ t) (inl h) = cc
+declined_at p n at [] (c ∷ t) (inr (inl h)) = cc
 declined_at p n at [] (c ∷ t) (inr (inr i)) = i
-declined_at p n at (g ∷ gs) t (inl h) = differ (Declined n) (Group at (at + length g)) h.1 (λ k. omega arith)
+declined_at p n at (g ∷ gs) t (inl h) = cc
 declined_at p n at (g ∷ gs) t (inr i) = declined_at p n (at + length g) gs t i
 
 group_put : (at : ℕ) (before : List (List ℕ)) (g : List ℕ) (after : List (List ℕ)) (t : List ℕ) (p : ℕ) → p ≡ at + length (joined before) → Stands p (Group p (p + length g)) (marks_from at (before ++ (g ∷ after)) t)

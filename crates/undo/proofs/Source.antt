@@ -1,5 +1,6 @@
 -- THE SOURCE: what the toolchain makes of the contracts in src/lib.rt is these definitions; each allows one outcome and asks nothing.
 --
+--    answered_one, walked_one  two of the module's answers that are told as one are one
 --    stands_source, stretch_source, walk_source
 --    stands_determined, stretch_determined, walk_determined
 --    stands_total, stretch_total, walk_total
@@ -15,10 +16,16 @@ use contract.Lifetimes.{Lfts}
 use denote.Ref.{Bor}
 use denote.Triple.Clauses.{AtExit}
 use borrow.Fn.Kinds.{Dens, ended_of}
+use Rattle.std.specs.Prelude.{Result, Ok, Err}
+use Rattle.numbers.specs.declared.Refusal.{Refusal}
+use Rattle.numbers.specs.Refusals.{number}
+use Rattle.numbers.proofs.Laws.{refused, number_one}
+use Rattle.undo.specs.Answers.{Walked, answered, walked}
+use Rattle.undo.specs.declared.Stand as found
+use Rattle.undo.specs.declared.Stand.TheVariants as found-
+use Rattle.undo.specs.declared.Walked as handed
 use Rattle.undo.specs.Stands.{stands, first_in, end_in, IsPart, IsStretch}
 use Rattle.undo.specs.Walk.{walk_call, walk_buffer}
-use Rattle.undo.specs.declared.Stand.{Stand}
-use Rattle.undo.specs.declared.Walked.{Walked}
 use Rattle.undo.proofs.Exact.{stretch_lies}
 use Rattle.undo.proofs.stands.Kinds as stands-kinds
 use Rattle.undo.proofs.stands.Reads as standing
@@ -27,24 +34,48 @@ use Rattle.undo.proofs.stretch.Reads as stretching
 use Rattle.undo.proofs.walk.Kinds as walk-kinds
 use Rattle.undo.proofs.walk.Reads as walking
 
-pub stands_source : (κs : Lfts 1) (a : Dens κs stands-kinds.ps) (x : Stand) (e : AtExit (ended_of 1 stands-kinds.ps stands-kinds.r) κs)
-    → standing.Post κs a x e → x ≡ stands a.0 a.1.0.now a.1.1.0
+pub answered_one : (x y : Result found.Stand Refusal) → answered x ≡ answered y → x ≡ y
+answered_one (Ok (found-.Group f e)) (Ok (found-.Group g d)) h = cc
+answered_one (Ok (found-.Group f e)) (Ok (found-.Open q)) h = cc
+answered_one (Ok (found-.Group f e)) (Ok found-.Nothing) h = cc
+answered_one (Ok (found-.Group f e)) (Err r) h = cc
+answered_one (Ok (found-.Open p)) (Ok (found-.Group g d)) h = cc
+answered_one (Ok (found-.Open p)) (Ok (found-.Open q)) h = cc
+answered_one (Ok (found-.Open p)) (Ok found-.Nothing) h = cc
+answered_one (Ok (found-.Open p)) (Err r) h = cc
+answered_one (Ok found-.Nothing) (Ok (found-.Group g d)) h = cc
+answered_one (Ok found-.Nothing) (Ok (found-.Open q)) h = cc
+answered_one (Ok found-.Nothing) (Ok found-.Nothing) h = refl
+answered_one (Ok found-.Nothing) (Err r) h = cc
+answered_one (Err r) (Ok (found-.Group g d)) h = cc
+answered_one (Err r) (Ok (found-.Open q)) h = cc
+answered_one (Err r) (Ok found-.Nothing) h = cc
+answered_one (Err r) (Err s) h = let e : number r ≡ number s = cc in ap Err (number_one r s e)
+
+pub walked_one : (x y : Result handed.Walked Refusal) → walked x ≡ walked y → x ≡ y
+walked_one (Ok v) (Ok w) h = ap Ok (λ i. record { groups = (h i).groups; tail = (h i).tail })
+walked_one (Ok v) (Err s) h = absurd (refused s (sym (ap (λ (w : Walked). w.number) h)))
+walked_one (Err r) (Ok w) h = absurd (refused r (ap (λ (w : Walked). w.number) h))
+walked_one (Err r) (Err s) h = ap Err (number_one r s (ap (λ (w : Walked). w.number) h))
+
+pub stands_source : (κs : Lfts 1) (a : Dens κs stands-kinds.ps) (x : Result found.Stand Refusal) (e : AtExit (ended_of 1 stands-kinds.ps stands-kinds.r) κs)
+    → standing.Post κs a x e → answered x ≡ stands a.0 a.1.0.now a.1.1.0
 stands_source κs a x e p = p
 
-pub stands_determined : (κs : Lfts 1) (a : Dens κs stands-kinds.ps) (x y : Stand) (e f : AtExit (ended_of 1 stands-kinds.ps stands-kinds.r) κs)
+pub stands_determined : (κs : Lfts 1) (a : Dens κs stands-kinds.ps) (x y : Result found.Stand Refusal) (e f : AtExit (ended_of 1 stands-kinds.ps stands-kinds.r) κs)
     → standing.Post κs a x e → standing.Post κs a y f → x ≡ y
-stands_determined κs a x y e f p q = p ∙ sym q
+stands_determined κs a x y e f p q = answered_one x y (p ∙ sym q)
 
 pub stands_total : (κs : Lfts 1) (a : Dens κs stands-kinds.ps) → standing.Pre κs a
 stands_total κs a = tt
 
-pub walk_source : (κs : Lfts 2) (a : Dens κs walk-kinds.ps) (x : Walked) (e : AtExit (ended_of 2 walk-kinds.ps walk-kinds.r) κs)
-    → walking.Post κs a x e → (x ≡ walk_call a.0 a.1.0.now) × (e.1.1.0.now ≡ walk_buffer a.0 a.1.0.now a.1.1.0.now)
+pub walk_source : (κs : Lfts 2) (a : Dens κs walk-kinds.ps) (x : Result handed.Walked Refusal) (e : AtExit (ended_of 2 walk-kinds.ps walk-kinds.r) κs)
+    → walking.Post κs a x e → (walked x ≡ walk_call a.0 a.1.0.now) × (e.1.1.0.now ≡ walk_buffer a.0 a.1.0.now a.1.1.0.now)
 walk_source κs a x e p = p
 
-pub walk_determined : (κs : Lfts 2) (a : Dens κs walk-kinds.ps) (x y : Walked) (e f : AtExit (ended_of 2 walk-kinds.ps walk-kinds.r) κs)
+pub walk_determined : (κs : Lfts 2) (a : Dens κs walk-kinds.ps) (x y : Result handed.Walked Refusal) (e f : AtExit (ended_of 2 walk-kinds.ps walk-kinds.r) κs)
     → walking.Post κs a x e → walking.Post κs a y f → (x ≡ y) × (e.1.1.0.now ≡ f.1.1.0.now)
-walk_determined κs a x y e f p q = (p.0 ∙ sym q.0, p.1 ∙ sym q.1)
+walk_determined κs a x y e f p q = (walked_one x y (p.0 ∙ sym q.0), p.1 ∙ sym q.1)
 
 pub walk_total : (κs : Lfts 2) (a : Dens κs walk-kinds.ps) → walking.Pre κs a
 walk_total κs a = tt

@@ -7,8 +7,7 @@ use Rattle.std.specs.Prelude.{ℕ, ◌+◌, ◌<◌, ◌≡◌, Bool, List, ◌�
 use Rattle.numbers.specs.Numbers.{Given, done}
 use Rattle.undo.specs.Groups.{groups_of, joined}
 use Rattle.undo.specs.Stands.{values_of, lines}
-use Rattle.undo.specs.declared.Stand.{Stand}
-use Rattle.undo.specs.declared.Stand.TheVariants.{Group, Open, Nothing, Declined}
+use Rattle.undo.specs.Answers.{Stand, Group, Open, Nothing, Declined}
 
 -- a group's place is the length of all groups before it
 unfoldable pub Begins : ℕ → ℕ → List (List ℕ) → Type 0

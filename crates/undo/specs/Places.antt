@@ -7,8 +7,7 @@ use Rattle.std.specs.Prelude.{ℕ, ◌+◌, Bool, List, [], ◌∷◌, length, d
 use Rattle.numbers.specs.Numbers.{Line, ◌gives◌, beyond_end}
 use Rattle.undo.specs.Groups.{groups_of}
 use Rattle.undo.specs.Walk.{walk_lines}
-use Rattle.undo.specs.declared.Stand.{Stand}
-use Rattle.undo.specs.declared.Stand.TheVariants.{Group, Open, Nothing}
+use Rattle.undo.specs.Answers.{Stand, Group, Open, Nothing}
 
 unfoldable pub standing : ℕ → List (List ℕ) → List ℕ → Stand
 standing at (g ∷ gs) tail = Group at (at + length g)

@@ -17,8 +17,7 @@ use Rattle.numbers.specs.Numbers.{Line, ◌gives◌, number_of, done, beyond_end
 use Rattle.keys.specs.Keys.{is_code}
 use Rattle.keys.specs.Replay.{is_press, legal}
 use Rattle.undo.specs.Groups.{groups_of, ends_with_release}
-use Rattle.undo.specs.declared.Stand.{Stand}
-use Rattle.undo.specs.declared.Stand.TheVariants.{Group, Open, Nothing, Declined}
+use Rattle.undo.specs.Answers.{Stand, Group, Open, Nothing, Declined}
 
 -- a number, a first place, and the place after the last
 pub record Values : Type 0 where

@@ -12,7 +12,7 @@ use Rattle.keys.specs.Keys.{is_code}
 use Rattle.keys.specs.Replay.{legal}
 use Rattle.undo.specs.Groups.{Cut, groups_of, joined, ends_with_release}
 use Rattle.undo.specs.Stands.{is_trim}
-use Rattle.undo.specs.declared.Walked.{Walked}
+use Rattle.undo.specs.Answers.{Walked}
 
 unfoldable pub ends_from : ℕ → List (List ℕ) → List ℕ
 ends_from at [] = []

@@ -1,30 +1,30 @@
 // Undo groups: a list of codes, oldest first, cut into groups by the trim key.
 #![tactic(auto)]
 
-ghost use Rattle.std.specs.Prelude.{◌≡◌, ◌<◌, ◌≤◌, length, get_or, set, eqb};
+ghost use Rattle.std.specs.Prelude.{◌≡◌, ◌<◌, ◌≤◌, length, get_or, set, eqb, Ok};
 ghost use Rattle.numbers.specs.Numbers.{number_of};
+ghost use Rattle.numbers.specs.Refusals.{told};
 ghost use Rattle.codes.specs.Codes.{opposite};
+ghost use Rattle.undo.specs.Answers.{stood, answered, walked};
 ghost use Rattle.undo.specs.Groups.{groups_of, ends_with_release};
 ghost use Rattle.undo.specs.Stands.{is_trim, marks_of, stand_at, stands, IsStretch};
 ghost use Rattle.undo.specs.Walk.{ends_from, walk_lines, handed, walk_call, over, walk_buffer};
 ghost use Rattle.undo.specs.Places.{next_at, place_lines};
 
-use numbers::{BAD_CHANGE, BAD_CODE, BEYOND_END, DONE, INSIDE_GROUP};
+use numbers::Refusal;
 
 // What stands at a place: a finished group, from its first place to the place after its last; one that is open, by its first place;
-// the end of the list; or nothing is told, and the number says why.
+// or the end of the list.
 #[derive(Clone, Copy)]
 pub enum Stand {
     Group(usize, usize),
     Open(usize),
     Nothing,
-    Declined(u8),
 }
 
 // What the walk has handed out: how many groups, and the first place of the open tail.
 #[derive(Clone, Copy)]
 pub struct Walked {
-    pub number: u8,
     pub groups: usize,
     pub tail: usize,
 }
@@ -33,34 +33,28 @@ pub struct Walked {
 fn is_trim(trim: u8) -> bool
     ensures { result ≡ is_trim trim }
 {
-    if 127 < trim {
-        return false;
-    }
-    keys::is_code(trim)
+    trim <= 127 && keys::is_code(trim)
 }
 
-// The number of a list by itself.
-fn of_list(trim: u8, codes: &[u8]) -> u8
-    ensures { result ≡ number_of (walk_lines trim codes.now) }
+// Is a list declined by itself?
+fn of_list(trim: u8, codes: &[u8]) -> Result<(), Refusal>
+    ensures { told result ≡ number_of (walk_lines trim codes.now) }
 {
-    if !is_trim(trim) {
-        return BAD_CODE;
-    }
-    if codes::good(codes) < codes.len() {
-        return BAD_CODE;
+    if !is_trim(trim) || codes::good(codes) < codes.len() {
+        return Err(Refusal::BadCode);
     }
     if codes::agreeing(codes) < codes.len() {
-        return BAD_CHANGE;
+        return Err(Refusal::BadChange);
     }
-    DONE
+    Ok(())
 }
 
-// The number of a list with a place, but for a place inside a group.
-fn of_place(trim: u8, codes: &[u8], place: usize) -> u8
-    ensures { result ≡ number_of (place_lines trim codes.now place) }
+// Is a list with a place declined, but for a place inside a group?
+fn of_place(trim: u8, codes: &[u8], place: usize) -> Result<(), Refusal>
+    ensures { told result ≡ number_of (place_lines trim codes.now place) }
 {
     if codes.len() < place {
-        return BEYOND_END;
+        return Err(Refusal::BeyondEnd);
     }
     of_list(trim, codes)
 }
@@ -75,60 +69,54 @@ fn has_ended(trim: u8, code: u8) -> bool
 // The group that the trim key opens at a place: up to the code with which it ends, or open.
 fn group_from(trim: u8, codes: &[u8], at: usize) -> Stand
     requires { (at < length codes.now) × (get_or codes.now at 0 ≡ trim) }
-    ensures { result ≡ next_at (ends_with_release trim) trim codes.now at }
+    ensures { stood result ≡ next_at (ends_with_release trim) trim codes.now at }
 {
-    let mut i = at + 1;
-    while i < codes.len() {
+    for i in at + 1..codes.len() {
         if has_ended(trim, codes[i]) {
             return Stand::Group(at, i + 1);
         }
-        i = i + 1;
     }
     Stand::Open(at)
 }
 
 // What stands at a place where something begins.
 fn next(trim: u8, codes: &[u8], at: usize) -> Stand
-    ensures { result ≡ next_at (ends_with_release trim) trim codes.now at }
+    ensures { stood result ≡ next_at (ends_with_release trim) trim codes.now at }
 {
-    if codes.len() <= at {
-        return Stand::Nothing;
+    match codes.get(at) {
+        None => Stand::Nothing,
+        Some(code) if *code != trim => Stand::Group(at, at + 1),
+        Some(_) => group_from(trim, codes, at),
     }
-    if codes[at] != trim {
-        return Stand::Group(at, at + 1);
-    }
-    group_from(trim, codes, at)
 }
 
 // What stands at a place of a list that is not declined: the groups before it are gone through.
-fn stand_at(trim: u8, codes: &[u8], place: usize) -> Stand
+fn stand_at(trim: u8, codes: &[u8], place: usize) -> Result<Stand, Refusal>
     requires { place ≤ length codes.now }
-    ensures { result ≡ stand_at place (marks_of (ends_with_release trim) trim codes.now) }
+    ensures { answered result ≡ stand_at place (marks_of (ends_with_release trim) trim codes.now) }
 {
     if codes.len() <= place {
-        return Stand::Nothing;
+        return Ok(Stand::Nothing);
     }
     let mut at: usize = 0;
+    // kept: the walk goes from group to group, of which there is no list to go over; document 01 names its `let .. else`
     while at < place {
-        let Stand::Group(_, e) = next(trim, codes, at) else {
-            return Stand::Declined(INSIDE_GROUP);
+        let Stand::Group(_, end) = next(trim, codes, at) else {
+            return Err(Refusal::InsideGroup);
         };
-        at = e;
+        at = end;
     }
     if place < at {
-        return Stand::Declined(INSIDE_GROUP);
+        return Err(Refusal::InsideGroup);
     }
-    next(trim, codes, at)
+    Ok(next(trim, codes, at))
 }
 
 // What stands at a place of a list of codes, oldest first, by the trim key's press code?
-pub fn stands(trim: u8, codes: &[u8], place: usize) -> Stand
-    ensures { result ≡ stands trim codes.now place }
+pub fn stands(trim: u8, codes: &[u8], place: usize) -> Result<Stand, Refusal>
+    ensures { answered result ≡ stands trim codes.now place }
 {
-    let number = of_place(trim, codes, place);
-    if number != DONE {
-        return Stand::Declined(number);
-    }
+    of_place(trim, codes, place)?;
     stand_at(trim, codes, place)
 }
 
@@ -136,7 +124,8 @@ pub fn stands(trim: u8, codes: &[u8], place: usize) -> Stand
 pub fn stretch<'a>(trim: u8, codes: &'a [u8], place: usize) -> &'a [u8]
     ensures { IsStretch trim codes.entry place result }
 {
-    let Stand::Group(first, end) = stands(trim, codes, place) else {
+    // a question that is declined leads to as much as the end of the list does
+    let Stand::Group(first, end) = stands(trim, codes, place).unwrap_or(Stand::Nothing) else {
         return &codes[0..0];
     };
     &codes[first..end]
@@ -146,48 +135,33 @@ pub fn stretch<'a>(trim: u8, codes: &'a [u8], place: usize) -> &'a [u8]
 fn put(ends: &mut [usize], at: usize, end: usize)
     ensures { ends.new ≡ set ends.old at end }
 {
-    if ends.len() <= at {
-        return;
+    if at < ends.len() {
+        ends[at] = end;
     }
-    ends[at] = end;
 }
 
 // Hands out the groups of a list that is not declined, one after another.
 fn hand_out(trim: u8, codes: &[u8], ends: &mut [usize]) -> Walked
-    ensures { (result ≡ handed (groups_of (ends_with_release trim) trim codes.now)) × (ends.new ≡ over (ends_from 0 (groups_of (ends_with_release trim) trim codes.now).groups) ends.old) }
+    ensures { (walked (Ok result) ≡ handed (groups_of (ends_with_release trim) trim codes.now)) × (ends.new ≡ over (ends_from 0 (groups_of (ends_with_release trim) trim codes.now).groups) ends.old) }
 {
     let mut groups: usize = 0;
     let mut at: usize = 0;
+    // kept: the walk goes from group to group, of which there is no list to go over; document 01 names its `let .. else`
     while at < codes.len() {
-        let Stand::Group(_, e) = next(trim, codes, at) else {
-            return Walked {
-                number: DONE,
-                groups: groups,
-                tail: at,
-            };
+        let Stand::Group(_, end) = next(trim, codes, at) else {
+            return Walked { groups, tail: at };
         };
-        put(ends, groups, e);
-        at = e;
-        groups = groups + 1;
+        put(ends, groups, end);
+        at = end;
+        groups += 1;
     }
-    Walked {
-        number: DONE,
-        groups: groups,
-        tail: at,
-    }
+    Walked { groups, tail: at }
 }
 
 // Hands out all groups: the place after each, in order, as far as the buffer has room.
-pub fn walk(trim: u8, codes: &[u8], ends: &mut [usize]) -> Walked
-    ensures { (result ≡ walk_call trim codes.now) × (ends.new ≡ walk_buffer trim codes.now ends.old) }
+pub fn walk(trim: u8, codes: &[u8], ends: &mut [usize]) -> Result<Walked, Refusal>
+    ensures { (walked result ≡ walk_call trim codes.now) × (ends.new ≡ walk_buffer trim codes.now ends.old) }
 {
-    let number = of_list(trim, codes);
-    if number != DONE {
-        return Walked {
-            number: number,
-            groups: 0,
-            tail: 0,
-        };
-    }
-    hand_out(trim, codes, ends)
+    of_list(trim, codes)?;
+    Ok(hand_out(trim, codes, ends))
 }

@@ -5,11 +5,11 @@
 --    longest_none, none_longest       it has no byte exactly if the first can't be read
 --    longest_begin, readable_some, readable_none, readable_end    its walk: the beginning, an address that can be read, one that can't, and the end
 --    least_left, least_right          the smaller of two numbers; least-most: it is no greater than either
+--    shared_at, shared_found          what two lists share, by the first place at which they differ
 --    shared_all, shared_most          a list shares all with itself, and no more than it has
 --    shared_take                      what two lists share are the first items of both
---    shared_begin, shared_more, shared_differ, shared_stop    the walk of two lists: the beginning, an item that they share, one that differs, and the end
 --    reads_unsound, reads_asleep, reads_none, reads_done    the number of a read
---    reads_one                        that of a read of one byte, in each case; one_none, one-done: by the longest run
+--    reads_one                        that of a read of one byte, in each case; one_none, one_done: by the longest run; one_err: declined as an access
 --    read_facts                       what holds of a read that is done
 --    bytes_length, first_bytes        a read gives as many bytes as it asks for; one of fewer bytes gives the first of them
 --    read_leaves                      the module after a done read
@@ -18,31 +18,40 @@
 --    agreed_all                       all are given if nothing came between
 --    blank                            the room for a transfer's bytes, with none in it
 --    filled_length, filled_take, filled_at    the room with bytes at its front: its length, its front, and a byte of that
---    put_filled, put_fits             the bytes of a read, put into the room
---    run_blank, run_all, run_part, part_fits    the reads that are asked for, and that what was sent lies in the room
+--    put_filled                       the bytes of a read, put into the room
+--    run_blank, run_part              the reads that are asked for
 --    agreed_is                        the bytes are compared with those of a read of as many
---    read_declined, read_begun        a read that begins: declined, and with all made ahead
+--    Begins b n v                     what is told and left is what b gives
+--    read_declined, read_none, read_begun    a read that begins: declined as an access, or at the address, and with all made ahead; run_ahead: that these can be read
 --    write_declined, write_begun      a write that begins: declined, and with the address to come; reaches: when it is not declined
+--    told_kept                        what a byte that comes gives, told apart
 --    byte_names, byte_refused, byte_nowhere, byte_over, byte_kept    a byte that comes: the address, that of a declined write, one that nothing waits for, one too many, and one to be written
---    silent_else, silent_past, silent_full, byte_given    a byte that is asked for: in no read, past the last, past the room, and one that is there
---    write_ended, none_ended, read_ended    a transfer that stops: a write, none, and a read
---    open_dropped                     one that is dropped
+--    has_facts                        what it is that a byte is there; given_byte, given_none: what is handed over then, and else
+--    silent_past, byte_given          a byte that is asked for in a read: past the last, and one that is there
+--    least_min                        the smaller of two numbers, by its other name
+--    write_counted, none_counted, read_counted    a transfer that stops: a write, none, and a read
 -- Assumes nothing.
-use Prim.Native.Nat.{ℕ, zero, suc, ◌+◌, ◌-◌, ◌≤◌, ◌<◌}
+use Prim.Native.Nat.{ℕ, zero, suc, ◌+◌, ◌-◌, ◌≤◌, ◌<◌, min}
 use native.Mathlib.Omega.{arith}
 use native.Mathlib.Numerals.{add-one, sub-one}
 use mathlib.Core.Path.{◌≡◌, refl, sym, ap, subst, ◌∙◌}
-use mathlib.Core.Bool.{true, false, cond, not}
+use mathlib.Core.Bool.{Bool, true, false, cond, not, ◌&&◌, and-eq-true_iff}
 use mathlib.Core.List.{List, [], ◌∷◌, ◌++◌}
 use lib.Dec.{leb, ltb, eqb}
-use lib.ListN.{length, take, drop, get_or, replicate, length-take, length-append, length-replicate, drop_of_length-le, get_or-append}
-use lib.Seq.{drop-cons, take_all, take-append-le}
-use borrow.Rule.Slice.PartMut.{put_mid}
-use borrow.Author.Tests.{lt-ltb, le-ltb, le-leb, eq-eqb, ne_eqb, eqb-true, eqb-false, ltb-false, leb-true, leb-false, not-false}
+use lib.ListN.{length, take, drop, get_or, replicate, length-take, length-append, length-replicate, get_or-append}
+use lib.Seq.{take_all, take-append-le}
+use Rattle.std.specs.Prelude.{Option, Some, None}
+use Rattle.std.specs.Option.{unwrap_or}
+use Rattle.std.specs.List.{position_or_len, zip}
+use Rattle.std.proofs.lemmas.Slice.Zip.{length-zip}
+use borrow.Author.Tests.{lt-ltb, le-ltb, le-leb, eq-eqb, ne_eqb, eqb-true, eqb-false, ltb-true, ltb-false, leb-true, leb-false, not-false}
 use Rattle.words.proofs.Laws.{true_false}
 use Rattle.words.proofs.Lists.{by_test}
-use Rattle.numbers.specs.Numbers.{◌gives◌, number_of, no_bytes, too_many, not_allowed, unsound, sleeping}
-use Rattle.numbers.proofs.Laws.{line_yes, line_no, lines_end, declining, line_false}
+use Rattle.numbers.specs.declared.Refusal.{Refusal}
+use Rattle.numbers.specs.declared.Refusal.TheVariants.{NotAllowed}
+use Rattle.numbers.specs.Refusals.{number}
+use Rattle.numbers.specs.Numbers.{◌gives◌, number_of, done, no_bytes, too_many, not_allowed, unsound, sleeping}
+use Rattle.numbers.proofs.Laws.{line_yes, line_no, lines_end, declining, line_false, refused}
 use Rattle.registers.specs.declared.Access.{Access}
 use Rattle.registers.specs.declared.Access.TheVariants.{Read}
 use Rattle.registers.specs.Registers.{register_at, allowed}
@@ -56,12 +65,9 @@ use Rattle.access.specs.Bytes.{read_out}
 use Rattle.access.specs.Accesses.{read_all, bytes_read}
 use Rattle.access.proofs.Laws.{bytes_first}
 use Rattle.calls.specs.Calls.{access_number, read_number, accessed, read_call}
-use Rattle.calls.proofs.Laws.{unsound_access, asleep_first, awake_then}
+use Rattle.calls.proofs.Laws.{unsound_access, asleep_first, awake_then, access_err}
 use Rattle.wire.specs.declared.Wire.{Wire}
-use Rattle.wire.specs.declared.Begun.{Begun}
-use Rattle.wire.specs.declared.Ended.{Ended}
-use Rattle.wire.specs.declared.Handed.{Handed}
-use Rattle.wire.specs.Wire.{readable, longest, least, shared, agreed, filled, opened, idle, ahead, begin_read, begin_write, named, one_more, kept, take_byte, one_given, has_more, next_byte, sent, counted, stop, drop_open}
+use Rattle.wire.specs.Wire.{Begun, Kept, Handed, readable, longest, least, shared, agreed, filled, names, reads, refuses, opened, ahead, begin_read, begin_write, named, one_more, kept, take_byte, one_given, has_more, next_byte, sent, counted}
 
 sub_zero : (n : ℕ) → n - 0 ≡ n
 sub_zero n = omega arith
@@ -186,34 +192,16 @@ module _ (a b : ℕ) where
       (λ _ e. let l = leb-true a b e in (omega arith, omega arith)) (λ _ e. let l = leb-false a b e in (omega arith, omega arith)) refl
 
 -- ---- what two lists share
-module _ (k l : List ℕ) (n : ℕ) where
-  shared_end : length k ≤ n → shared (drop n k) (drop n l) ≡ 0
-  unfolding shared
-  shared_end h = rw (drop_of_length-le k h) refl
+abbrev differ : ℕ × ℕ → Bool
+differ p = not (eqb p.0 p.1)
 
-  module _ (h : n < length k) (g : n < length l) where
-    shared_no : (get_or k n 0 ≡ get_or l n 0 → ⊥) → shared (drop n k) (drop n l) ≡ 0
-    unfolding shared
-    shared_no d = rw (drop-cons k n 0 h, drop-cons l n 0 g, ne_eqb (get_or k n 0) (get_or l n 0) d) refl
-
-    shared_yes : get_or k n 0 ≡ get_or l n 0 → shared (drop n k) (drop n l) ≡ shared (drop (n + 1) k) (drop (n + 1) l) + 1
-    unfolding shared
-    shared_yes d = rw (drop-cons k n 0 h, drop-cons l n 0 g, eq-eqb (get_or k n 0) (get_or l n 0) d, add-one n) refl
-
--- the walk of two lists: n items are shared
-pub shared_begin : (k l : List ℕ) → shared k l ≡ 0 + shared (drop 0 k) (drop 0 l)
-shared_begin k l = omega arith
-
-module _ (k l : List ℕ) (n : ℕ) (e : shared k l ≡ n + shared (drop n k) (drop n l)) where
-  pub shared_stop : length k ≤ n → n ≡ shared k l
-  shared_stop h = sym (e ∙ ap (λ (j : ℕ). n + j) (shared_end k l n h) ∙ omega arith)
-
-  module _ (h : n < length k) (g : n < length l) where
-    pub shared_differ : (get_or k n 0 ≡ get_or l n 0 → ⊥) → n ≡ shared k l
-    shared_differ d = sym (e ∙ ap (λ (j : ℕ). n + j) (shared_no k l n h g d) ∙ omega arith)
-
-    pub shared_more : get_or k n 0 ≡ get_or l n 0 → shared k l ≡ (n + 1) + shared (drop (n + 1) k) (drop (n + 1) l)
-    shared_more d = e ∙ ap (λ (j : ℕ). n + j) (shared_yes k l n h g d) ∙ omega arith
+shared_at : (k l : List ℕ) → length k ≡ length l → shared k l ≡ position_or_len differ (zip k l)
+unfolding shared
+shared_at [] l e = refl
+shared_at (x ∷ k) [] e = absurd (omega arith)
+shared_at (x ∷ k) (y ∷ l) e =
+    let h = shared_at k l (omega arith) in
+    by_test (λ t. cond t (shared k l + 1) 0 ≡ cond (not (not t)) (1 + position_or_len differ (zip k l)) 0) (eqb x y) (λ _. omega arith) (λ _. refl)
 
 pub shared_all : (l : List ℕ) → shared l l ≡ length l
 unfolding shared
@@ -227,6 +215,21 @@ shared_most (x ∷ k) [] = omega arith
 shared_most (x ∷ k) (y ∷ l) =
     let h = shared_most k l in
     by_test (λ t. cond t (shared k l + 1) 0 ≤ suc (length k)) (eqb x y) (λ _. omega arith) (λ _. omega arith)
+
+-- the first place at which two lists differ, or their length
+pub shared_found : (k l : List ℕ) → length k ≡ length l → (r : Option ℕ)
+    → r ≡ cond (ltb (position_or_len differ (zip k l)) (length (zip k l))) (Some (position_or_len differ (zip k l))) None
+    → (n : ℕ) → n ≡ unwrap_or r (length k) → (n ≡ shared k l) × (n ≤ length k)
+shared_found k l e r f n g =
+    let at = shared_at k l e in
+    let long : length (zip k l) ≡ length k = length-zip k l ∙ omega arith in
+    let most = shared_most k l in
+    let first = position_or_len differ (zip k l) in
+    let same : n ≡ shared k l =
+    g ∙ rw f
+    (by_test (λ t. ltb first (length (zip k l)) ≡ t → unwrap_or (cond t (Some first) None) (length k) ≡ shared k l) (ltb first (length (zip k l)))
+    (λ _ _. sym at) (λ _ h. let over = ltb-false first (length (zip k l)) h in omega arith) refl) in
+    (same, omega arith)
 
 pub shared_take : (k l : List ℕ) → take (shared k l) k ≡ take (shared k l) l
 unfolding shared
@@ -326,19 +329,31 @@ agreed_all m a n =
     ap (λ (k : ℕ). shared (bytes_read m a n) (bytes_read m a k)) (bytes_length m a n) ∙ shared_all (bytes_read m a n) ∙ bytes_length m a n
 
 -- ---- the number of a read of one byte, n being the longest run
-module _ (m : Module) (a : ℕ) (ok : sound m ≡ true) (z : m.asleep ≡ false) (n : ℕ) (e : n ≡ longest a) where
-  pub one_none : n < 1 → read_number m a 1 ≡ not_allowed
-  one_none h = reads_none m a 1 ok z (omega arith) (omega arith) (longest_none a (omega arith))
+module _ (m : Module) (a : ℕ) (ok : done ≡ access_number m []) (n : ℕ) (e : n ≡ longest a) where
+  access_facts : (sound m ≡ true) × (m.asleep ≡ false)
+  unfolding access_number declining
+  access_facts = (
+    not-false (sound m) (line_false [] (not (sound m)) unsound (m.asleep gives sleeping ∷ []) refl (sym ok)),
+    line_false (not (sound m) gives unsound ∷ []) m.asleep sleeping [] refl (sym ok),
+  )
 
-  pub one_done : 1 ≤ n → read_number m a 1 ≡ 0
-  one_done h = reads_done m a 1 ok z (omega arith) (omega arith) (run_within a 1 (omega arith))
+  pub one_none : n < 1 → not_allowed ≡ read_number m a 1
+  one_none h = sym (reads_none m a 1 access_facts.0 access_facts.1 (omega arith) (omega arith) (longest_none a (omega arith)))
+
+  pub one_done : 1 ≤ n → done ≡ read_number m a 1
+  one_done h = sym (reads_done m a 1 access_facts.0 access_facts.1 (omega arith) (omega arith) (run_within a 1 (omega arith)))
+
+-- one that is declined as an access
+pub one_err : (m : Module) (a : ℕ) (r : Refusal) → number r ≡ access_number m [] → number r ≡ read_number m a 1
+unfolding read_number
+one_err m a r e = access_err m (read_lines a 1) r e
 
 -- ---- the room for a transfer's bytes
 abbrev blank : List ℕ
 blank = replicate 33 0
 
-blank_length : (n : ℕ) → n ≤ 33 → length (take (n - 0) blank) ≡ n
-blank_length n h = length-take (n - 0) blank ∙ omega arith
+blank_length : (n : ℕ) → n ≤ 33 → length (take n blank) ≡ n
+blank_length n h = length-take n blank ∙ omega arith
 
 drop_replicate : (n k : ℕ) → drop k (replicate {A = ℕ} n 0) ≡ replicate (n - k) 0
 drop_replicate n zero = ap (λ (j : ℕ). replicate j 0) (sym (sub_zero n))
@@ -358,92 +373,100 @@ unfolding filled
 filled_at l n h = get_or-append l (replicate (33 - length l) 0) 0 n h
 
 -- the bytes l of a read of n bytes, put into the room
-module _ (m : Module) (a n : ℕ) (l : List ℕ) (h : n ≤ 33) (e : l ≡ bytes_read m a (length (take (n - 0) blank))) where
+module _ (m : Module) (a n : ℕ) (l : List ℕ) (h : n ≤ 33) (e : l ≡ bytes_read m a (length (take n blank))) where
   put_bytes : l ≡ bytes_read m a n
   put_bytes = e ∙ ap (bytes_read m a) (blank_length n h)
 
   put_length : length l ≡ n
   put_length = ap length put_bytes ∙ bytes_length m a n
 
-  pub put_filled : put_mid 0 (n - 0) blank l ≡ filled (bytes_read m a n)
+  pub put_filled : l ++ drop n blank ≡ filled (bytes_read m a n)
   unfolding filled
   put_filled =
-      let k : n - 0 ≡ length l = sub_zero n ∙ sym put_length in
-      ap (λ (j : ℕ). l ++ drop j blank) k
+      ap (λ (j : ℕ). l ++ drop j blank) (sym put_length)
       ∙ ap (λ (r : List ℕ). l ++ r) (drop_replicate 33 (length l))
       ∙ ap (λ (r : List ℕ). r ++ replicate (33 - length r) 0) put_bytes
 
-  pub put_fits : n ≤ length (put_mid 0 (n - 0) blank l)
-  put_fits =
-      let b = bytes_length m a n in
-      subst (λ (k : ℕ). n ≤ k) (sym (ap length put_filled ∙ filled_length (bytes_read m a n) (omega arith))) h
-
-pub run_blank : (a n : ℕ) → n ≤ 33 → run_allowed Read a n ≡ true → run_allowed Read a (length (take (n - 0) blank)) ≡ true
+pub run_blank : (a n : ℕ) → n ≤ 33 → run_allowed Read a n ≡ true → run_allowed Read a (length (take n blank)) ≡ true
 run_blank a n h e = ap (run_allowed Read a) (blank_length n h) ∙ e
 
-pub run_all : (a n : ℕ) → n ≡ longest a → run_allowed Read a (length (take (n - 0) blank)) ≡ true
-run_all a n e =
-    let most = longest_most a in
-    run_blank a n (omega arith) (ap (run_allowed Read a) e ∙ longest_run a)
-
-pub run_part : (a k h n : ℕ) (l : List ℕ) → k ≡ longest a → h ≤ k → n ≤ h → (length (take (n - 0) l) ≤ 32) × (run_allowed Read a (length (take (n - 0) l)) ≡ true)
+-- those that were sent, n of the h that were handed over
+pub run_part : (a k h n : ℕ) (l : List ℕ) → k ≡ longest a → h ≤ k → n ≤ h → (length (take n l) ≤ 32) × (run_allowed Read a (length (take n l)) ≡ true)
 run_part a k h n l e g f =
     let most = longest_most a in
-    let few : length (take (n - 0) l) ≤ n = subst (λ (j : ℕ). j ≤ n) (sym (length-take (n - 0) l)) (omega arith) in
-    (omega arith, run_within a (length (take (n - 0) l)) (omega arith))
+    let few : length (take n l) ≤ n = subst (λ (j : ℕ). j ≤ n) (sym (length-take n l)) (omega arith) in
+    (omega arith, run_within a (length (take n l)) (omega arith))
 
-pub part_fits : (k h n : ℕ) (l : List ℕ) → k ≤ 32 → h ≤ k → n ≤ h → length l ≡ 33 → n ≤ length l
-part_fits k h n l e g f long = omega arith
-
-pub agreed_is : (m : Module) (a : ℕ) (k l : List ℕ) (r : ℕ) → length k ≤ 33 → l ≡ bytes_read m a (length (take (length k - 0) blank))
-    → r ≡ shared k (take (length k - 0) (put_mid 0 (length k - 0) blank l)) → r ≡ agreed m a k
+pub agreed_is : (m : Module) (a : ℕ) (k l : List ℕ) (r : ℕ) → length k ≤ 33 → l ≡ bytes_read m a (length (take (length k) blank))
+    → r ≡ shared k (take (length k) (l ++ drop (length k) blank)) → r ≡ agreed m a k
 unfolding agreed
 agreed_is m a k l r h e f =
     let n = length k in
     let b = bytes_length m a n in
     f
-    ∙ ap (λ (x : List ℕ). shared k (take (n - 0) x)) (put_filled m a n l h e)
-    ∙ ap (λ (j : ℕ). shared k (take j (filled (bytes_read m a n)))) (sub_zero n)
+    ∙ ap (λ (x : List ℕ). shared k (take n x)) (put_filled m a n l h e)
     ∙ ap (shared k) (filled_take (bytes_read m a n) n (omega arith) ∙ take_all n (bytes_read m a n) (omega arith))
 
 -- ---- the beginning of a transfer
-module _ (m : Module) (w v : Wire) (ev : v ≡ idle w) where
-  abbrev begun : List ℕ → ℕ → ℕ → ℕ → Begun
-  begun l n d number = record { wire = record { bytes = l; count = n; given = v.given; first = v.first; doing = d }; number = number }
+module _ (m : Module) (w v : Wire) where
+  abbrev Begins : Begun → ℕ → Wire → Type 0
+  Begins b n x = (n ≡ b.number) × (x ≡ b.wire)
 
-  pub read_declined : (n : ℕ) → read_number m w.first 1 ≡ n → (n ≡ 0 → ⊥) → begun blank v.count 3 n ≡ begin_read m w
-  unfolding begin_read ahead opened filled idle
-  read_declined n e h =
-      ap (λ (x : Wire). record { wire = record { bytes = blank; count = x.count; given = x.given; first = x.first; doing = 3 }; number = n }) ev
-      ∙ rw (e, ne_eqb n 0 h) refl
+  module _ (ev : v ≡ opened w reads []) where
+    pub read_declined : (r : Refusal) → number r ≡ read_number m w.first 1 → Begins (begin_read m w) (number r) v
+    unfolding begin_read ahead
+    read_declined r e = (e, ev ∙ ap (opened w reads) (rw (ne_eqb (read_number m w.first 1) 0 (λ z. refused r (e ∙ z))) refl))
 
-  pub read_begun : (n : ℕ) (l : List ℕ) → read_number m w.first 1 ≡ 0 → n ≡ longest w.first → l ≡ bytes_read m w.first (length (take (n - 0) blank))
-      → begun (put_mid 0 (n - 0) blank l) n 3 0 ≡ begin_read m w
-  unfolding begin_read ahead opened idle
-  read_begun n l e en el =
-      let a = w.first in
-      let most = longest_most a in
-      let bytes = put_filled m a n l (omega arith) el ∙ ap (λ (k : ℕ). filled (bytes_read m a k)) en in
-      let count = sym (bytes_length m a n) ∙ ap (λ (k : ℕ). length (bytes_read m a k)) en in
-      (λ i. record { wire = record { bytes = bytes i; count = count i; given = (ev i).given; first = (ev i).first; doing = 3 }; number = 0 })
-      ∙ rw e refl
+    named_first : v.first ≡ w.first
+    unfolding opened
+    named_first = ap (λ (x : Wire). x.first) ev
 
-  pub write_declined : (n : ℕ) → access_number m [] ≡ n → (n ≡ 0 → ⊥) → begun blank v.count 4 n ≡ begin_write m w
-  unfolding begin_write opened filled idle
-  write_declined n e h =
-      ap (λ (x : Wire). record { wire = record { bytes = blank; count = x.count; given = x.given; first = x.first; doing = 4 }; number = n }) ev
-      ∙ rw (e, ne_eqb n 0 h) refl
+    all_blank : v.bytes ≡ blank
+    unfolding opened filled
+    all_blank = ap (λ (x : Wire). x.bytes) ev
 
-  pub write_begun : access_number m [] ≡ 0 → begun blank v.count 1 0 ≡ begin_write m w
-  unfolding begin_write opened filled idle
-  write_begun e =
-      ap (λ (x : Wire). record { wire = record { bytes = blank; count = x.count; given = x.given; first = x.first; doing = 1 }; number = 0 }) ev
-      ∙ rw e refl
+    module _ (a n : ℕ) (ea : a ≡ v.first) (en : n ≡ longest a) where
+      pub run_ahead : run_allowed Read a (length (take n v.bytes)) ≡ true
+      run_ahead =
+          let most = longest_most a in
+          ap (λ (l : List ℕ). run_allowed Read a (length (take n l))) all_blank ∙ run_blank a n (omega arith) (ap (run_allowed Read a) en ∙ longest_run a)
+
+      module _ (ok : done ≡ access_number m []) where
+        same : a ≡ w.first
+        same = ea ∙ named_first
+
+        pub read_none : n < 1 → Begins (begin_read m w) not_allowed v
+        read_none h = read_declined NotAllowed (one_none m a ok n en h ∙ ap (λ (j : ℕ). read_number m j 1) same)
+
+        pub read_begun : 1 ≤ n → (l : List ℕ) → l ≡ bytes_read m a (length (take n v.bytes))
+            → Begins (begin_read m w) done (record { bytes = l ++ drop n v.bytes; count = n; given = v.given; first = v.first; doing = v.doing })
+        unfolding begin_read ahead opened
+        read_begun some l el =
+            let most = longest_most a in
+            let e : done ≡ read_number m w.first 1 = one_done m a ok n en some ∙ ap (λ (j : ℕ). read_number m j 1) same in
+            let k : n ≡ longest w.first = en ∙ ap longest same in
+            let put = put_filled m a n l (omega arith) (el ∙ ap (λ (r : List ℕ). bytes_read m a (length (take n r))) all_blank) in
+            let bytes : l ++ drop n v.bytes ≡ filled (bytes_read m w.first (longest w.first)) =
+            ap (λ (r : List ℕ). l ++ drop n r) all_blank ∙ put ∙ (λ i. filled (bytes_read m (same i) (k i))) in
+            let count : n ≡ length (bytes_read m w.first (longest w.first)) = k ∙ sym (bytes_length m w.first (longest w.first)) in
+            (e, (λ i. record { bytes = bytes i; count = count i; given = (ev i).given; first = (ev i).first; doing = (ev i).doing }) ∙ rw (sym e) refl)
+
+  module _ (ev : v ≡ opened w refuses []) where
+    pub write_declined : (r : Refusal) → number r ≡ access_number m [] → Begins (begin_write m w) (number r) v
+    unfolding begin_write
+    write_declined r e = (e, ev ∙ rw (ne_eqb (access_number m []) 0 (λ z. refused r (e ∙ z))) refl)
+
+    pub write_begun : done ≡ access_number m [] → Begins (begin_write m w) done (record { bytes = v.bytes; count = v.count; given = v.given; first = v.first; doing = names })
+    unfolding begin_write opened
+    write_begun e = (e, (λ i. record { bytes = (ev i).bytes; count = (ev i).count; given = (ev i).given; first = (ev i).first; doing = names }) ∙ rw (sym e) refl)
 
 pub reaches : (m : Module) → sound m ≡ true → m.asleep ≡ false → access_number m [] ≡ 0
 reaches m ok z = awake_then m [] ok z ∙ lines_end
 
 -- ---- bytes
+pub told_kept : {x : Wire} {t : Bool} (k : Kept) → kept x t ≡ k → (t ≡ k.yes) × (x ≡ k.wire)
+told_kept k e = (ap (λ (k : Kept). k.yes) e, ap (λ (k : Kept). k.wire) e)
+
 module _ (w : Wire) (b : ℕ) where
   pub byte_names : w.doing ≡ 1 → kept (named w b 2) true ≡ take_byte w b
   unfolding take_byte
@@ -471,53 +494,54 @@ module _ (w : Wire) where
   abbrev silent : Handed
   silent = record { wire = w; byte = 0xFF }
 
-  pub silent_else : (w.doing ≡ 3 → ⊥) → silent ≡ next_byte w
-  unfolding next_byte has_more
-  silent_else e = rw (ne_eqb w.doing 3 e) refl
+  -- what it is that a byte is there
+  pub has_facts : has_more w ≡ true → (w.doing ≡ 3) × (w.given < w.count) × (w.given < 33)
+  unfolding has_more
+  has_facts e =
+      let p = (and-eq-true_iff (eqb w.doing 3) (ltb w.given w.count && ltb w.given 33)).0 e in
+      let q = (and-eq-true_iff (ltb w.given w.count) (ltb w.given 33)).0 p.1 in
+      (eqb-true w.doing 3 p.0, ltb-true w.given w.count q.0, ltb-true w.given 33 q.1)
+
+  pub given_none : has_more w ≡ false → (0xFF ≡ (next_byte w).byte) × (w ≡ (next_byte w).wire)
+  unfolding next_byte
+  given_none e = rw e (refl, refl)
+
+  pub given_byte : has_more w ≡ true → (get_or w.bytes w.given 0 ≡ (next_byte w).byte) × (one_given w ≡ (next_byte w).wire)
+  unfolding next_byte
+  given_byte e = rw e (refl, refl)
 
   module _ (e : w.doing ≡ 3) where
     pub silent_past : w.count ≤ w.given → silent ≡ next_byte w
     unfolding next_byte has_more
     silent_past h = rw (eq-eqb w.doing 3 e, le-ltb w.given w.count h) refl
 
-    module _ (h : w.given < w.count) where
-      pub silent_full : 33 ≤ w.given → silent ≡ next_byte w
-      unfolding next_byte has_more
-      silent_full g = rw (eq-eqb w.doing 3 e, lt-ltb w.given w.count h, le-ltb w.given 33 g) refl
-
-      pub byte_given : w.given < 33 → ◌≡◌ {A = Handed} (record { wire = one_given w; byte = get_or w.bytes w.given 0 }) (next_byte w)
-      unfolding next_byte has_more
-      byte_given g = rw (eq-eqb w.doing 3 e, lt-ltb w.given w.count h, lt-ltb w.given 33 g) refl
+    pub byte_given : w.given < w.count → w.given < 33 → ◌≡◌ {A = Handed} (record { wire = one_given w; byte = get_or w.bytes w.given 0 }) (next_byte w)
+    unfolding next_byte has_more
+    byte_given h g = rw (eq-eqb w.doing 3 e, lt-ltb w.given w.count h, lt-ltb w.given 33 g) refl
 
 -- ---- the end of a transfer
-module _ (m : Module) (w v : Wire) (n : ℕ) (ev : v ≡ idle w) where
-  ended : (k : ℕ) → k ≡ counted m w n → ◌≡◌ {A = Ended} (record { wire = v; count = k }) (stop m w n)
-  unfolding stop
-  ended k e i = record { wire = ev i; count = e i }
+pub least_min : (a b : ℕ) → min a b ≡ least a b
+unfolding least
+least_min a b =
+    by_test (λ t. leb a b ≡ t → min a b ≡ cond t a b) (leb a b)
+    (λ _ e. let l = leb-true a b e in omega arith) (λ _ e. let l = leb-false a b e in omega arith) refl
 
-  pub write_ended : (k : ℕ) → w.doing ≡ 2 → k ≡ least w.count 33 → ◌≡◌ {A = Ended} (record { wire = v; count = k }) (stop m w n)
+module _ (m : Module) (w : Wire) (n : ℕ) where
+  pub write_counted : (k : ℕ) → w.doing ≡ 2 → k ≡ min w.count 33 → (k ≡ counted m w n) × (k ≤ 33)
   unfolding counted
-  write_ended k e f = ended k (f ∙ go)
-    where
-      go : least w.count 33 ≡ counted m w n
-      go = rw (eq-eqb w.doing 2 e) refl
+  write_counted k e f = (f ∙ least_min w.count 33 ∙ rw (eq-eqb w.doing 2 e) refl, omega arith)
 
-  module _ (d : w.doing ≡ 2 → ⊥) where
-    pub none_ended : (w.doing ≡ 3 → ⊥) → ◌≡◌ {A = Ended} (record { wire = v; count = 0 }) (stop m w n)
-    unfolding counted
-    none_ended e = ended 0 go
-      where
-        go : 0 ≡ counted m w n
-        go = rw (ne_eqb w.doing 2 d, ne_eqb w.doing 3 e) refl
+  pub none_counted : (w.doing ≡ 2 → ⊥) → (w.doing ≡ 3 → ⊥) → (0 ≡ counted m w n) × (0 ≤ 33)
+  unfolding counted
+  none_counted d e = (rw (ne_eqb w.doing 2 d, ne_eqb w.doing 3 e) refl, omega arith)
 
-    pub read_ended : (g h j k : ℕ) → w.doing ≡ 3 → g ≡ longest w.first → h ≡ least w.given g → j ≡ least n h → k ≡ agreed m w.first (take (j - 0) w.bytes)
-        → ◌≡◌ {A = Ended} (record { wire = v; count = k }) (stop m w n)
-    unfolding counted sent
-    read_ended g h j k e eg eh ej ek = ended k (ek ∙ ap (λ (i : ℕ). agreed m w.first (take i w.bytes)) (sub_zero j ∙ ej ∙ ap (least n) (eh ∙ ap (least w.given) eg)) ∙ go)
-      where
-        go : agreed m w.first (take (least n (least w.given (longest w.first))) w.bytes) ≡ counted m w n
-        go = rw (ne_eqb w.doing 2 d, eq-eqb w.doing 3 e) refl
-
-pub open_dropped : (w v : Wire) → v ≡ idle w → kept v (not (eqb w.doing 0)) ≡ drop_open w
-unfolding drop_open
-open_dropped w v ev = ap (λ (x : Wire). kept x (not (eqb w.doing 0))) ev
+  pub read_counted : (a g h j k : ℕ) → w.doing ≡ 3 → a ≡ w.first → g ≡ longest a → h ≡ min w.given g → j ≡ min n h → k ≡ agreed m a (take j w.bytes)
+      → (k ≡ counted m w n) × (k ≤ 33)
+  unfolding counted sent
+  read_counted a g h j k e ea eg eh ej ek =
+      let most = longest_most a in
+      let few = agreed_most m a (take j w.bytes) in
+      let long = length-take j w.bytes in
+      let handed : h ≡ least w.given (longest w.first) = eh ∙ ap (min w.given) (eg ∙ ap longest ea) ∙ least_min w.given (longest w.first) in
+      let many : j ≡ least n (least w.given (longest w.first)) = ej ∙ ap (min n) handed ∙ least_min n (least w.given (longest w.first)) in
+      (ek ∙ (λ i. agreed m (ea i) (take (many i) w.bytes)) ∙ rw (ne_eqb w.doing 2 (λ z. omega arith), eq-eqb w.doing 3 e) refl, omega arith)

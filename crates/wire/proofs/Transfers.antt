@@ -31,9 +31,7 @@ use Rattle.sound.specs.Sound.{sound}
 use Rattle.access.specs.Accesses.{bytes_read}
 use Rattle.calls.specs.Calls.{access_number, read_number}
 use Rattle.wire.specs.declared.Wire.{Wire}
-use Rattle.wire.specs.declared.Handed.{Handed}
-use Rattle.wire.specs.declared.Kept.{Kept}
-use Rattle.wire.specs.Wire.{longest, least, agreed, filled, opened, ahead, begin_read, begin_write, take_byte, next_byte, sent, counted, stop}
+use Rattle.wire.specs.Wire.{Handed, Kept, longest, least, agreed, filled, opened, ahead, begin_read, begin_write, take_byte, next_byte, sent, counted, stop}
 use Rattle.wire.proofs.Laws.{longest_most, least_left, least_right, least_most, filled_take, filled_at, bytes_length, first_bytes, reads_done, run_within, silent_past, byte_given, byte_names, byte_kept, agreed_most, agreed_all, agreed_first}
 
 unfoldable pub asked : ℕ → Wire → Wire

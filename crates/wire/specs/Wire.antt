@@ -1,5 +1,6 @@
 -- Between a two-wire bus and the module: what each event of a transfer does, for all arguments. The module is only looked at; the access is made at the stop.
 --
+--    Begun, Kept, Handed, Ended    what an event gives: the wire after it, and its number, answer, byte or count
 --    readable a n         how many of the n addresses from a on can be read, up to the first that can't
 --    longest a            how many bytes a read from the address a can have
 --    least a b            the smaller of two numbers
@@ -25,10 +26,26 @@ use Rattle.state.specs.declared.Module.{Module}
 use Rattle.access.specs.Accesses.{bytes_read}
 use Rattle.calls.specs.Calls.{access_number, read_number}
 use Rattle.wire.specs.declared.Wire.{Wire}
-use Rattle.wire.specs.declared.Begun.{Begun}
-use Rattle.wire.specs.declared.Ended.{Ended}
-use Rattle.wire.specs.declared.Kept.{Kept}
-use Rattle.wire.specs.declared.Handed.{Handed}
+
+-- what the beginning of a transfer gives
+pub record Begun : Type 0 where
+  pub wire : Wire
+  pub number : ℕ
+
+-- what a byte from the host and a drop give: was the byte taken; was a transfer open?
+pub record Kept : Type 0 where
+  pub wire : Wire
+  pub yes : Bool
+
+-- what the bus is handed when it asks for a byte
+pub record Handed : Type 0 where
+  pub wire : Wire
+  pub byte : ℕ
+
+-- what the stop of a transfer gives: how many bytes its access has
+pub record Ended : Type 0 where
+  pub wire : Wire
+  pub count : ℕ
 
 -- how many of the n addresses from a on can be read, up to the first that can't
 unfoldable pub readable : ℕ → ℕ → ℕ

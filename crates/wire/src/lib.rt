@@ -1,11 +1,14 @@
 // Between a two-wire bus and the module: a transfer of the host's is one whole access, made at its stop, of the bytes that were really sent.
 #![tactic(auto)]
 
-ghost use Rattle.std.specs.Prelude.{◌≤◌, ◌≡◌, true, length};
+ghost use Rattle.std.specs.Prelude.{◌≤◌, ◌≡◌, true, [], length};
+ghost use Rattle.numbers.specs.Refusals.{told};
 ghost use Rattle.registers.specs.declared.Access.TheVariants as way;
 ghost use Rattle.registers.specs.Runs.{run_allowed};
-ghost use Rattle.wire.specs.Wire.{longest, least, shared, idle, agreed, begin_read, begin_write, take_byte, next_byte, stop, drop_open};
+ghost use Rattle.calls.specs.Calls.{access_number};
+ghost use Rattle.wire.specs.Wire.{longest, shared, opened, idle, agreed, begin_read, begin_write, take_byte, has_more, next_byte, counted, stop, drop_open};
 
+use numbers::Refusal;
 use registers::Access;
 use state::Module;
 
@@ -31,6 +34,7 @@ pub const REFUSES: u8 = 4;
 pub const NOTHING: u8 = 0xFF;
 
 // The transfer that is open, if one is. All zeros are a wire with none.
+// kept: the C interface: bytes with their count beside
 #[repr(C)]
 #[derive(Clone, Copy)]
 pub struct Wire {
@@ -42,36 +46,8 @@ pub struct Wire {
     pub given: u8,
     // the address that the host named last
     pub first: u8,
-    // IDLES, NAMES, WRITES, READS or REFUSES
+    // IDLES, NAMES, WRITES, READS or REFUSES; kept: the C interface, whose memory may hold any byte here
     pub doing: u8,
-}
-
-// What the beginning of a transfer hands back.
-#[derive(Clone, Copy)]
-pub struct Begun {
-    pub wire: Wire,
-    pub number: u8,
-}
-
-// What a byte from the host and a drop hand back: was the byte taken; was a transfer open?
-#[derive(Clone, Copy)]
-pub struct Kept {
-    pub wire: Wire,
-    pub yes: bool,
-}
-
-// What the bus is handed when it asks for a byte.
-#[derive(Clone, Copy)]
-pub struct Handed {
-    pub wire: Wire,
-    pub byte: u8,
-}
-
-// What the stop of a transfer hands back: how many bytes its access has.
-#[derive(Clone, Copy)]
-pub struct Ended {
-    pub wire: Wire,
-    pub count: u8,
 }
 
 // How many bytes a read from this address can have.
@@ -79,25 +55,13 @@ pub fn longest(first: u16) -> usize
     ensures { (result ≡ longest first) × (result ≤ 32) }
 {
     let mut address = first;
-    let mut n: usize = 0;
-    while n < 32 {
+    for n in 0..32 {
         if !registers::is_allowed(Access::Read, registers::register_at(address)) {
             return n;
         }
         address = registers::next_address(address);
-        n = n + 1;
     }
-    n
-}
-
-// The smaller of two numbers.
-fn least(a: usize, b: usize) -> usize
-    ensures { (result ≡ least a b) × (result ≤ a) × (result ≤ b) }
-{
-    if a <= b {
-        return a;
-    }
-    b
+    32
 }
 
 // How many bytes two lists of one length have in common, from the first on.
@@ -105,216 +69,153 @@ fn shared(a: &[u8], b: &[u8]) -> usize
     requires { length a.now ≡ length b.now }
     ensures { (result ≡ shared a.now b.now) × (result ≤ length a.now) }
 {
-    let mut n: usize = 0;
-    while n < a.len() {
-        if a[n] != b[n] {
-            return n;
-        }
-        n = n + 1;
-    }
-    n
+    a.iter()
+        .zip(b)
+        .position(|(x, y)| *x != *y)
+        .unwrap_or(a.len())
 }
 
-// The wire with no transfer open; the address stays named.
-fn idle(w: Wire) -> Wire
-    ensures { result ≡ idle w }
+// No transfer is open any more; the address stays named.
+fn close(w: &mut Wire)
+    ensures { w.new ≡ idle w.old }
 {
-    let mut next = w;
-    next.count = 0;
-    next.given = 0;
-    next.doing = IDLES;
-    next
+    w.count = 0;
+    w.given = 0;
+    w.doing = IDLES;
 }
 
-// The host begins a read at the address that it named: all that it could give is made ahead, on a copy.
-pub fn begin_read(m: Module, w: Wire) -> Begun
-    ensures { result ≡ begin_read m w }
+// A transfer is opened that has no bytes yet; the address stays named.
+fn open(w: &mut Wire, doing: u8)
+    ensures { w.new ≡ opened w.old doing [] }
 {
-    let mut next = idle(w);
-    next.bytes = [0; ROOM];
-    next.doing = READS;
+    close(w);
+    w.bytes = [0; ROOM];
+    w.doing = doing;
+}
+
+// Why an access is declined, whatever it asks for.
+fn of_access(m: &Module) -> Result<(), Refusal>
+    ensures { told result ≡ access_number m.now [] }
+{
     if !sound::is_sound(m) {
-        return Begun {
-            wire: next,
-            number: numbers::UNSOUND,
-        };
+        return Err(Refusal::Unsound);
     }
-    let asleep = m.asleep;
-    if asleep {
-        return Begun {
-            wire: next,
-            number: numbers::ASLEEP,
-        };
+    if m.asleep {
+        return Err(Refusal::Asleep);
     }
-    let first = w.first as u16;
+    Ok(())
+}
+
+// The host begins a read at the address that it named: all that it could give is made ahead.
+pub fn begin_read(m: &Module, w: &mut Wire) -> Result<(), Refusal>
+    ensures { (told result ≡ (begin_read m.now w.old).number) × (w.new ≡ (begin_read m.now w.old).wire) }
+{
+    open(w, READS);
+    of_access(m)?;
+    let first = u16::from(w.first);
     let n = longest(first);
     if n < 1 {
-        return Begun {
-            wire: next,
-            number: numbers::NOT_ALLOWED,
-        };
+        return Err(Refusal::NotAllowed);
     }
-    let mut bytes = [0u8; ROOM];
-    access::peek(m, first, &mut bytes[0..n]);
-    next.bytes = bytes;
-    next.count = n as u8;
-    Begun {
-        wire: next,
-        number: numbers::DONE,
-    }
+    access::peek(m, first, &mut w.bytes[..n]);
+    w.count = n as u8;
+    Ok(())
 }
 
 // The host begins a write: its first byte is to come, and is the address.
-pub fn begin_write(m: Module, w: Wire) -> Begun
-    ensures { result ≡ begin_write m w }
+pub fn begin_write(m: &Module, w: &mut Wire) -> Result<(), Refusal>
+    ensures { (told result ≡ (begin_write m.now w.old).number) × (w.new ≡ (begin_write m.now w.old).wire) }
 {
-    let mut next = idle(w);
-    next.bytes = [0; ROOM];
-    next.doing = REFUSES;
-    if !sound::is_sound(m) {
-        return Begun {
-            wire: next,
-            number: numbers::UNSOUND,
-        };
-    }
-    let asleep = m.asleep;
-    if asleep {
-        return Begun {
-            wire: next,
-            number: numbers::ASLEEP,
-        };
-    }
-    next.doing = NAMES;
-    Begun {
-        wire: next,
-        number: numbers::DONE,
-    }
+    open(w, REFUSES);
+    of_access(m)?;
+    w.doing = NAMES;
+    Ok(())
 }
 
 // A byte came from the host: the address, or one to be written. Is it taken?
-pub fn take_byte(w: Wire, byte: u8) -> Kept
-    ensures { result ≡ take_byte w byte }
+pub fn take_byte(w: &mut Wire, byte: u8) -> bool
+    ensures { (result ≡ (take_byte w.old byte).yes) × (w.new ≡ (take_byte w.old byte).wire) }
 {
-    let mut next = w;
-    let doing = w.doing;
-    let count = w.count;
-    if doing == NAMES {
-        next.first = byte;
-        next.doing = WRITES;
-        return Kept {
-            wire: next,
-            yes: true,
-        };
+    match w.doing {
+        NAMES => {
+            w.first = byte;
+            w.doing = WRITES;
+            true
+        }
+        REFUSES => {
+            w.first = byte;
+            w.doing = IDLES;
+            false
+        }
+        WRITES if w.count < 33 => {
+            w.bytes[w.count as usize] = byte;
+            w.count += 1;
+            true
+        }
+        _ => false,
     }
-    if doing == REFUSES {
-        next.first = byte;
-        next.doing = IDLES;
-        return Kept {
-            wire: next,
-            yes: false,
-        };
-    }
-    if doing != WRITES {
-        return Kept {
-            wire: w,
-            yes: false,
-        };
-    }
-    if 33 <= count {
-        return Kept {
-            wire: w,
-            yes: false,
-        };
-    }
-    let mut bytes = w.bytes;
-    bytes[count as usize] = byte;
-    next.bytes = bytes;
-    next.count = count + 1;
-    Kept {
-        wire: next,
-        yes: true,
-    }
+}
+
+// Is there a byte for the bus: one that was made ahead, and not handed over yet?
+fn has_more(w: &Wire) -> bool
+    ensures { result ≡ has_more w.now }
+{
+    w.doing == READS && w.given < w.count && w.given < 33
 }
 
 // The bus asks for a byte: the next of those made ahead, or NOTHING. No code is taken.
-pub fn next_byte(w: Wire) -> Handed
-    ensures { result ≡ next_byte w }
+pub fn next_byte(w: &mut Wire) -> u8
+    ensures { (result ≡ (next_byte w.old).byte) × (w.new ≡ (next_byte w.old).wire) }
 {
-    let doing = w.doing;
-    let given = w.given;
-    let count = w.count;
-    if doing != READS {
-        return Handed {
-            wire: w,
-            byte: NOTHING,
-        };
+    if !has_more(w) {
+        return NOTHING;
     }
-    if count <= given {
-        return Handed {
-            wire: w,
-            byte: NOTHING,
-        };
-    }
-    if 33 <= given {
-        return Handed {
-            wire: w,
-            byte: NOTHING,
-        };
-    }
-    let bytes = w.bytes;
-    let mut next = w;
-    next.given = given + 1;
-    Handed {
-        wire: next,
-        byte: bytes[given as usize],
-    }
+    let byte = w.bytes[w.given as usize];
+    w.given += 1;
+    byte
 }
 
 // How many of these bytes a read of the module would give, from the first on.
-fn agreed(m: Module, first: u16, sent: &[u8]) -> usize
+fn agreed(m: &Module, first: u16, sent: &[u8]) -> usize
     requires { (length sent.now ≤ 32) × (run_allowed way.Read first (length sent.now) ≡ true) }
-    ensures { (result ≡ agreed m first sent.now) × (result ≤ length sent.now) }
+    ensures { (result ≡ agreed m.now first sent.now) × (result ≤ length sent.now) }
 {
     let n = sent.len();
+    // kept: no heap
     let mut again = [0u8; ROOM];
-    access::peek(m, first, &mut again[0..n]);
-    shared(sent, &again[0..n])
+    access::peek(m, first, &mut again[..n]);
+    shared(sent, &again[..n])
 }
 
-// The transfer stops, so many bytes of a read having been sent: how many bytes its access has. Of a read they are those that the module still has to give.
-pub fn stop(m: Module, w: Wire, sent: u32) -> Ended
-    ensures { result ≡ stop m w sent }
+// How many bytes the access has that a transfer comes to, so many bytes of a read having been sent. Of a read they are those that the module still has to give.
+fn counted(m: &Module, w: &Wire, sent: u32) -> usize
+    ensures { (result ≡ counted m.now w.now sent) × (result ≤ 33) }
 {
-    let doing = w.doing;
-    let first = w.first as u16;
-    let bytes = w.bytes;
-    if doing == WRITES {
-        return Ended {
-            wire: idle(w),
-            count: least(w.count as usize, ROOM) as u8,
-        };
-    }
-    if doing != READS {
-        return Ended {
-            wire: idle(w),
-            count: 0,
-        };
-    }
-    let handed = least(w.given as usize, longest(first));
-    let n = least(sent as usize, handed);
-    Ended {
-        wire: idle(w),
-        count: agreed(m, first, &bytes[0..n]) as u8,
+    match w.doing {
+        WRITES => (w.count as usize).min(ROOM),
+        READS => {
+            let first = u16::from(w.first);
+            let handed = (w.given as usize).min(longest(first));
+            agreed(m, first, &w.bytes[..(sent as usize).min(handed)])
+        }
+        _ => 0,
     }
 }
 
-// The transfer is dropped, and no access is made.
-pub fn drop_open(w: Wire) -> Kept
-    ensures { result ≡ drop_open w }
+// The transfer stops, so many bytes of a read having been sent: how many bytes its access has.
+pub fn stop(m: &Module, w: &mut Wire, sent: u32) -> u8
+    ensures { (result ≡ (stop m.now w.old sent).count) × (w.new ≡ (stop m.now w.old sent).wire) }
 {
-    let doing = w.doing;
-    Kept {
-        wire: idle(w),
-        yes: doing != IDLES,
-    }
+    let count = counted(m, w, sent);
+    close(w);
+    count as u8
+}
+
+// The transfer is dropped, and no access is made. Was one open?
+pub fn drop_open(w: &mut Wire) -> bool
+    ensures { (result ≡ (drop_open w.old).yes) × (w.new ≡ (drop_open w.old).wire) }
+{
+    let was_open = w.doing != IDLES;
+    close(w);
+    was_open
 }

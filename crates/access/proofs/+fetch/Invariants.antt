@@ -1,4 +1,4 @@
--- `access::fetch` meets its contract: if no code waits the rest is 0x7F; else one code is taken out, and unless it was the last, the rest of the buffer is lent to the same rule, which its length bounds.
+-- `access::fetch` ends: the rest of the buffer is shorter.
 use lib.ListN.{length}
 use Rattle.access.proofs.+fetch.Given as goal
 

@@ -1,28 +1,19 @@
-use Prim.Native.Nat.{◌<◌}
 use native.Mathlib.Omega.{arith}
-use lib.ListN.{length, length-set}
+use lib.ListN.{length-take, length-drop, length-set}
 use Rattle.access.specs.Pins.{pin_byte}
-use Rattle.access.proofs.Laws.{back_length}
-use Rattle.access.proofs.Pins.{along_end, along_last, along_more}
+use Rattle.access.proofs.Laws.{none, some}
+use Rattle.access.proofs.Pins.{along_end, along_more}
 use Rattle.access.proofs.+fill_each.Goals as goal
 
-pub returns-then-out-lt1 : goal.returns-then-out-lt1
-returns-then-out-lt1 t c = along_end (pin_byte c.args.kept.now c.args.edge.now c.args.level.now c.args.size c.args.porirq c.args.mis) c.args.first c.args.out.now c.if-out-lt1.true
+pub returns-then-is_empty : goal.returns-then-is_empty
+returns-then-is_empty t c =
+    let a = c.args in
+    along_end (pin_byte a.m.now a.pins.now) a.first a.out.now (none a.out.now _ c.is_empty.ensures c.if-is_empty.true)
 
-pub returns-then-out-lt2 : goal.returns-then-out-lt2
-returns-then-out-lt2 t c =
-    let g = c.pin_byte in
-    let one : length c.args.out.now < 2 = rw (length-set c.args.out.now 0 g.result) at c.if-out-lt2.true in
-    along_last (pin_byte c.args.kept.now c.args.edge.now c.args.level.now c.args.size c.args.porirq c.args.mis) c.args.first c.args.out.now g.result c.if-out-lt1.false one g.ensures
-
-pub slice_bounds-fill_each-count : goal.slice_bounds-fill_each-count
-slice_bounds-fill_each-count t c = simp length-set (omega arith)
-
-pub shape_of-out : goal.shape_of-out
-shape_of-out t c =
-    let f = c.fill_each in
-    back_length c.args.out.now _ f.new.out f.auto.out
+pub fill_each-requires : goal.fill_each-requires
+fill_each-requires t c = let h = some c.args.out.now _ c.is_empty.ensures c.if-is_empty.false in simp (length-take, length-drop, length-set) (omega arith)
 
 pub returns : goal.returns
 returns t c =
-    along_more (pin_byte c.args.kept.now c.args.edge.now c.args.level.now c.args.size c.args.porirq c.args.mis) c.args.first _ c.args.out.now _ _ c.if-out-lt1.false c.pin_byte.ensures c.next_address-next.ensures c.fill_each.ensures
+    let a = c.args in
+    along_more (pin_byte a.m.now a.pins.now) a.first _ a.out.now _ _ (some a.out.now _ c.is_empty.ensures c.if-is_empty.false) c.pin_byte.ensures c.next_address.ensures c.fill_each.ensures

@@ -1,4 +1,4 @@
--- `access::fill_each` meets its contract: one byte is read, and if there is more to fill, the rest of the buffer is lent to the same rule, which its length bounds.
+-- `access::fill_each` ends: the rest of the buffer is shorter.
 use lib.ListN.{length}
 use Rattle.access.proofs.+fill_each.Given as goal
 

@@ -1,4 +1,4 @@
--- `access::fill_from` meets its contract: one byte is read, and the rest of the buffer is lent to the same rule, which its length bounds.
+-- `access::fill_from` ends: the rest of the buffer is shorter.
 use lib.ListN.{length}
 use Rattle.access.proofs.+fill_from.Given as goal
 

@@ -1,4 +1,4 @@
--- `access::show` meets its contract: one register is shown and marked, and the rest of the buffer is lent to the same rule, which its length bounds.
+-- `access::show` ends: the rest of the buffer is shorter.
 use lib.ListN.{length}
 use Rattle.access.proofs.+show.Given as goal
 

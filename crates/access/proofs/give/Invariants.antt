@@ -1,12 +1,9 @@
 -- `access::give` meets its contract. The loop's invariant: the places below i hold the bytes at hand.
-use Prim.Native.Nat.{◌+◌, ◌-◌, ◌≤◌}
+use Prim.Native.Nat.{◌+◌}
 use mathlib.Core.Path.{◌≡◌}
-use lib.ListN.{length, get_or}
+use lib.ListN.{get_or}
 use Rattle.words.proofs.Tables.{replaced}
 use Rattle.access.proofs.give.Given as goal
 
 abbrev pub invariant-loop-i : goal.invariant-loop-i
-invariant-loop-i l = (length l.out ≡ length l.initial.out) × (l.i ≤ length l.initial.out) × (l.out ≡ replaced (λ k. get_or l.from (l.at + k) 0) l.i l.initial.out)
-
-abbrev pub decreases-loop-i : goal.decreases-loop-i
-decreases-loop-i l = length l.out - l.i
+invariant-loop-i l = l.out ≡ replaced (λ k. get_or l.from (l.at + k) 0) l.i l.initial.out

@@ -8,9 +8,10 @@ use Rattle.bits.proofs.joined.Goals as goal
 
 pub overflow_add-result : goal.overflow_add-result
 overflow_add-result c =
-    record { fits = kept_fits c.args.byte c.args.bit c.args.x c.args.width (search rules) (search rules) (search rules) }
+    record { fits = rw (c.from.ensures, c.from-2.ensures) (kept_fits c.args.byte c.args.bit c.args.x c.args.width (search rules) (search rules) (search rules)) }
 
 pub returns : goal.returns
 returns c =
     let e = joined_number c.args.byte c.args.bit c.args.x c.args.width (search rules) (search rules) (search rules) in
+    rw (c.from.ensures, c.from-2.ensures)
     (e, rw e (number_most (take c.args.bit (bits_of 8 c.args.byte) ++ bits_of c.args.width c.args.x)))

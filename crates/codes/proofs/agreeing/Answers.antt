@@ -1,32 +1,27 @@
 use native.Mathlib.Omega.{arith}
-use mathlib.Core.Path.{sym, ◌∙◌}
-use borrow.Author.Rules.{rules}
-use borrow.Author.Tests.{not-true, not-false}
+use mathlib.Core.Path.{◌≡◌, sym, ◌∙◌}
+use lib.ListN.{length}
 use Rattle.codes.specs.Codes.{none_down}
 use Rattle.codes.proofs.Laws.{agreeing_end, agreeing_stop, agreeing_go}
 use Rattle.codes.proofs.agreeing.Goals as goal
 
 pub loop-i-init : goal.loop-i-init
 unfolding none_down
-loop-i-init c = (search rules, omega arith)
+loop-i-init c = omega arith
 
 pub returns-then-not-agrees : goal.returns-then-not-agrees
 returns-then-not-agrees c =
     let l = c.loop-i in
-    let codes = c.args.codes.now in
-    let more = c.loop-i-test.true in
-    (sym (agreeing_stop l.down codes l.i _ l.invariant.1 more (sym c.agrees.ensures ∙ not-true _ c.if-not-agrees.true-raw)), l.invariant.0)
+    (sym (agreeing_stop l.down c.args.codes.now l.i _ l.invariant c.loop-i-test.true (sym c.if-not-agrees.ensures)), omega arith)
 
 pub loop-i-preserved : goal.loop-i-preserved
 loop-i-preserved c =
     let l = c.loop-i in
-    let codes = c.args.codes.now in
-    let more = c.loop-i-test.true in
-    let agrees = sym c.agrees.ensures ∙ not-false _ c.if-not-agrees.false-raw in
-    (search rules, rw c.follow.ensures (agreeing_go l.down codes l.i _ l.invariant.1 more agrees))
+    rw c.follow.ensures (agreeing_go l.down c.args.codes.now l.i _ l.invariant c.loop-i-test.true (sym c.if-not-agrees.ensures))
 
 pub returns : goal.returns
 returns c =
     let l = c.loop-i in
-    let codes = c.args.codes.now in
-    (sym (agreeing_end l.down codes l.i _ l.invariant.1 c.loop-i-test.false), l.invariant.0)
+    let more = c.loop-i-test.false in
+    let end : l.i ≡ length c.args.codes.now = omega arith in
+    (sym (agreeing_end l.down c.args.codes.now l.i _ l.invariant more ∙ end), omega arith)

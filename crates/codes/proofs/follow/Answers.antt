@@ -6,13 +6,9 @@ use Rattle.codes.specs.Codes.{after}
 use Rattle.codes.proofs.Laws.{after_out}
 use Rattle.codes.proofs.follow.Goals as goal
 
-pub returns-then-table-key : goal.returns-then-table-key
-returns-then-table-key c =
-    let a = c.args in
-    let long = c.table-1.given.0.1 in
-    let key = c.key_of-key.ensures in
-    sym (after_out a.down.now a.code (omega arith))
-
-pub returns : goal.returns
+pub returns-then-key-lt-KEYS : goal.returns-then-key-lt-KEYS
 unfolding after is_press
-returns c = rw c.key_of-key.ensures
+returns-then-key-lt-KEYS c = rw c.key_of-key.ensures
+
+pub returns-else-key-lt-KEYS : goal.returns-else-key-lt-KEYS
+returns-else-key-lt-KEYS c = let key = c.key_of-key.ensures in sym (after_out _ _ (omega arith))

@@ -9,6 +9,6 @@ pub returns-then-code-lt-RELEASES : goal.returns-then-code-lt-RELEASES
 unfolding is_press
 returns-then-code-lt-RELEASES c = sym (opposite_press _ (lt-ltb _ _ c.if-code-lt-RELEASES.true))
 
-pub returns : goal.returns
+pub returns-else-code-lt-RELEASES : goal.returns-else-code-lt-RELEASES
 unfolding is_press
-returns c = sym (opposite_release _ (le-ltb _ _ c.if-code-lt-RELEASES.false))
+returns-else-code-lt-RELEASES c = sym (opposite_release _ (le-ltb _ _ c.if-code-lt-RELEASES.false))

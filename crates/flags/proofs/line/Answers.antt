@@ -1,22 +1,24 @@
 -- `flags::line` meets its contract: PORIRQ decides, or else KBDMIS, or else the pins.
+use Prim.Native.Nat.{ℕ}
 use mathlib.Core.Path.{sym, ap, ◌∙◌}
 use mathlib.Core.Bool.{not}
-use borrow.Author.Tests.{ne_eqb, eq-eqb}
-use Rattle.flags.specs.Flags.{mis}
+use lib.Dec.{eqb}
 use Rattle.flags.proofs.Laws.{line_porirq, line_mis, line_pins}
 use Rattle.flags.proofs.line.Goals as goal
-
-pub returns-then-porirq : goal.returns-then-porirq
-returns-then-porirq c = sym (line_porirq c.args.m c.if-porirq.true)
+use Rattle.flags.proofs.line.Goals.{then-m, else-m}
 
 pub returns-then-mis-ne0 : goal.returns-then-mis-ne0
-unfolding mis
 returns-then-mis-ne0 c =
-    let m = c.args.m in
-    sym (line_mis m c.if-porirq.false (ap not (ne_eqb (mis m) 0 (λ z. c.if-mis-ne0.true (c.mis.ensures ∙ z)))))
+    let m = c.args.m.now in
+    c.if-mis-ne0.true ∙ sym (elim c.if-m.branch [
+      | then-m w ↦ line_porirq m w.if-m.true
+      | else-m w ↦ line_mis m w.if-m.false (ap (λ (n : ℕ). not (eqb n 0)) (sym w.mis.ensures) ∙ sym w.value-is ∙ c.if-mis-ne0.true)
+    ])
 
-pub returns : goal.returns
-unfolding mis
-returns c =
-    let m = c.args.m in
-    c.is_raised.ensures ∙ sym (line_pins m c.if-porirq.false (ap not (eq-eqb (mis m) 0 (sym c.mis.ensures ∙ c.if-mis-ne0.false))))
+pub returns-else-mis-ne0 : goal.returns-else-mis-ne0
+returns-else-mis-ne0 c =
+    let m = c.args.m.now in
+    elim c.if-m.branch [
+      | then-m w ↦ cc
+      | else-m w ↦ c.is_raised.ensures ∙ sym (line_pins m w.if-m.false (ap (λ (n : ℕ). not (eqb n 0)) (sym w.mis.ensures) ∙ sym w.value-is ∙ c.if-mis-ne0.false))
+    ]

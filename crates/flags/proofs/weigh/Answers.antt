@@ -1,12 +1,16 @@
--- `flags::weigh` meets its contract: each return by the flag.
-use borrow.Author.Rules.{rules}
+-- `flags::weigh` meets its contract: by the flag.
+use Prim.Native.Nat.{ℕ, ◌*◌, ◌≤◌}
+use native.Mathlib.Omega.{arith}
+use mathlib.Core.Path.{◌≡◌}
+use mathlib.Core.Bool.{Bool, true, false}
+use mir.Val.{bool_byte}
 use Rattle.flags.specs.Flags.{weigh}
 use Rattle.flags.proofs.weigh.Goals as goal
 
-pub returns-then-flag : goal.returns-then-flag
+times : (f : Bool) (w : ℕ) → (bool_byte f * w ≡ weigh f w) × (bool_byte f * w ≤ w)
 unfolding weigh
-returns-then-flag c = (rw c.if-flag.true, search rules)
+times true w = (omega arith, omega arith)
+times false w = (omega arith, omega arith)
 
 pub returns : goal.returns
-unfolding weigh
-returns c = (rw c.if-flag.false, search rules)
+returns c = rw c.from.ensures (times c.args.flag c.args.weight)

@@ -1,27 +1,23 @@
 -- `groups::part_of` meets its contract: a finished group's part is from its first place to its end, which isn't before it, and every other one is empty.
-use mathlib.Core.Path.{sym, ap, subst}
-use Prim.Native.Nat.{◌≤◌}
-use Rattle.undo.specs.declared.Stand.{Stand}
-use Rattle.undo.specs.Stands.{values_of, first_in, end_in}
-use Rattle.groups.specs.Told.{part_of}
+use mathlib.Core.Path.{sym, ap, ◌∙◌}
+use Prim.Native.Nat.{◌-◌}
+use Rattle.undo.specs.Stands.{first_in, end_in}
+use Rattle.undo.proofs.Exact.{no_part, answered_group, answered_other}
+use Rattle.groups.proofs.Laws.{part_told}
 use Rattle.groups.proofs.part_of.Goals as goal
+
+pub returns-in_default : goal.returns-in_default
+returns-in_default c =
+    let other = answered_other c.args.answer (λ f e k. c.in_default.not-Group f e (c.unwrap_or.ensures ∙ k)) in
+    let none = no_part _ other in
+    part_told _ _ (c.from.ensures ∙ c.told.ensures) 0 0 (sym none.0) (rw (none.0, none.1))
 
 pub overflow_sub-result : goal.overflow_sub-result
 unfolding first_in end_in
-overflow_sub-result c = subst (λ (x : Stand). first_in x ≤ end_in x) c.in-Group.is c.requires
+overflow_sub-result c = rw (answered_group c.args.answer _ _ (sym c.unwrap_or.ensures ∙ c.in-Group.is)) at c.requires
 
-pub returns-in-Group : goal.returns-in-Group
-unfolding part_of values_of first_in end_in
-returns-in-Group c = sym (ap part_of c.in-Group.is)
-
-pub returns-in-Open : goal.returns-in-Open
-unfolding part_of values_of first_in end_in
-returns-in-Open c = sym (ap part_of c.in-Open.is)
-
-pub returns-in-Nothing : goal.returns-in-Nothing
-unfolding part_of values_of first_in end_in
-returns-in-Nothing c = sym (ap part_of c.in-Nothing.is)
-
-pub returns-in-Declined : goal.returns-in-Declined
-unfolding part_of values_of first_in end_in
-returns-in-Declined c = sym (ap part_of c.in-Declined.is)
+pub returns : goal.returns
+unfolding first_in end_in
+returns c =
+    let group = answered_group c.args.answer _ _ (sym c.unwrap_or.ensures ∙ c.in-Group.is) in
+    part_told _ _ (c.from.ensures ∙ c.told.ensures) _ _ (sym (ap first_in group)) (sym (λ i. end_in (group i) - first_in (group i)))

@@ -21,7 +21,7 @@ returns-then-not-is_run_allowed c =
     let n = c.args.count in
     let some = ne_eqb n 0 (omega arith) in
     let few = le-ltb _ _ c.if-count-gt32.false in
-    sym (line_no _ 3 _ some ∙ line_no _ 4 _ few ∙ line_yes _ 5 _ (ap not (sym c.is_run_allowed.ensures) ∙ c.if-not-is_run_allowed.true-raw))
+    sym (line_no _ 3 _ some ∙ line_no _ 4 _ few ∙ line_yes _ 5 _ (ap not (sym c.if-not-is_run_allowed.ensures)))
 
 pub returns : goal.returns
 unfolding access_lines
@@ -29,4 +29,4 @@ returns c =
     let n = c.args.count in
     let some = ne_eqb n 0 (omega arith) in
     let few = le-ltb _ _ c.if-count-gt32.false in
-    sym (line_no _ 3 _ some ∙ line_no _ 4 _ few ∙ line_no _ 5 _ (ap not (sym c.is_run_allowed.ensures) ∙ c.if-not-is_run_allowed.false-raw) ∙ lines_end)
+    sym (line_no _ 3 _ some ∙ line_no _ 4 _ few ∙ line_no _ 5 _ (ap not (sym c.if-not-is_run_allowed.ensures)) ∙ lines_end)

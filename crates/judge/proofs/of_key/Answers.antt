@@ -7,8 +7,8 @@ use Rattle.judge.proofs.of_key.Goals as goal
 
 pub returns-then-not-is_key : goal.returns-then-not-is_key
 unfolding key_lines
-returns-then-not-is_key c = sym (line_yes _ 7 _ (ap not (sym c.is_key.ensures) ∙ c.if-not-is_key.true-raw))
+returns-then-not-is_key c = sym (line_yes _ 7 _ (ap not (sym c.if-not-is_key.ensures)))
 
 pub returns : goal.returns
 unfolding key_lines
-returns c = sym (line_no _ 7 _ (ap not (sym c.is_key.ensures) ∙ c.if-not-is_key.false-raw) ∙ lines_end)
+returns c = sym (line_no _ 7 _ (ap not (sym c.if-not-is_key.ensures)) ∙ lines_end)

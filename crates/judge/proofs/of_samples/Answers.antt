@@ -14,10 +14,10 @@ pub returns-then-not-are_narrow : goal.returns-then-not-are_narrow
 unfolding sample_lines
 returns-then-not-are_narrow c =
     let eight = ap not (eq-eqb _ _ c.if-samples-ne8.false) in
-    sym (line_no _ 1 _ eight ∙ line_yes _ 2 _ (ap not (sym c.are_narrow.ensures) ∙ c.if-not-are_narrow.true-raw))
+    sym (line_no _ 1 _ eight ∙ line_yes _ 2 _ (ap not (sym c.if-not-are_narrow.ensures)))
 
 pub returns : goal.returns
 unfolding sample_lines
 returns c =
     let eight = ap not (eq-eqb _ _ c.if-samples-ne8.false) in
-    sym (line_no _ 1 _ eight ∙ line_no _ 2 _ (ap not (sym c.are_narrow.ensures) ∙ c.if-not-are_narrow.false-raw) ∙ lines_end)
+    sym (line_no _ 1 _ eight ∙ line_no _ 2 _ (ap not (sym c.if-not-are_narrow.ensures)) ∙ lines_end)

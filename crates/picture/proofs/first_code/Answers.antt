@@ -26,13 +26,9 @@ returns-then-but_first-gt0 c =
     let m = c.but_first.result in
     ap (λ (k : ℕ). 16 * a.row + first_of a.mask + k) (sym (more_in a.rows.now a.row m (search rules) (search rules)) ∙ ap (λ (k : ℕ). more (codes_from a.rows.now a.row k)) c.but_first.ensures)
 
-pub overflow_add-result-2 : goal.overflow_add-result-2
+pub returns-else-but_first-gt0 : goal.returns-else-but_first-gt0
 unfolding first_of
-overflow_add-result-2 c = let low = first_place c.args.mask (search rules) (search rules) in search rules
-
-pub returns : goal.returns
-unfolding first_of
-returns c =
+returns-else-but_first-gt0 c =
     let a = c.args in
     let b = c.but_first in
     ap (λ (k : ℕ). 16 * a.row + first_of a.mask + k)

@@ -1,11 +1,8 @@
--- `picture::mask_of_row` meets its contract. The loop's invariant: the mask is that of the row's keys from the column on.
-use mathlib.Core.Path.{◌≡◌}
-use Prim.Native.Nat.{◌≤◌}
-use Rattle.picture.proofs.Rows.{mask_from}
+-- `picture::mask_of_row` meets its contract. The loop's invariant: the mask is that of the row's keys behind those that are left.
+use Prim.Native.Nat.{◌*◌}
+use lib.ListN.{take, drop}
+use Rattle.picture.proofs.Rows.{MaskFrom}
 use Rattle.picture.proofs.mask_of_row.Given as goal
 
-abbrev pub invariant-loop-col : goal.invariant-loop-col
-invariant-loop-col l = (l.col ≤ 13) × (l.mask ≡ mask_from l.table l.row l.col)
-
-abbrev pub decreases-loop-col : goal.decreases-loop-col
-decreases-loop-col l = l.col
+abbrev pub invariant-loop-held : goal.invariant-loop-held
+invariant-loop-held l = MaskFrom (take 13 (drop (13 * l.row) l.table)) l.held-iterator.iter.rest.now l.mask

@@ -3,20 +3,15 @@ use borrow.Author.Rules.{rules}
 use Rattle.picture.proofs.Rows.{more_here, more_later, more_end}
 use Rattle.picture.proofs.more.Goals as goal
 
-pub loop-row-init : goal.loop-row-init
-loop-row-init c = refl
-
-pub returns-then-mask_at-gt0 : goal.returns-then-mask_at-gt0
-returns-then-mask_at-gt0 c =
+pub returns-then-rows-row-gt0 : goal.returns-then-rows-row-gt0
+returns-then-rows-row-gt0 c =
     let l = c.loop-row in
-    let m = c.mask_at in
-    (sym (l.invariant ∙ more_here c.args.rows.now l.row m.result m.ensures c.if-mask_at-gt0.true (search rules)), search rules)
+    (sym (l.invariant ∙ more_here c.args.rows.now l.row _ refl c.if-rows-row-gt0.true (search rules)), search rules)
 
 pub loop-row-preserved : goal.loop-row-preserved
 loop-row-preserved c =
     let l = c.loop-row in
-    let m = c.mask_at in
-    l.invariant ∙ more_later c.args.rows.now l.row m.result m.ensures (search rules)
+    l.invariant ∙ more_later c.args.rows.now l.row _ refl (search rules)
 
 pub returns : goal.returns
 returns c =

@@ -1,12 +1,12 @@
--- `scan::first_shown` meets its contract: by whether the special function contact is closed.
-use mathlib.Core.Path.{sym, ◌∙◌}
+-- `scan::first_shown` meets its contract: by whether the contact is closed.
+use mathlib.Core.Path.{sym}
 use Rattle.scan.specs.Walk.{first_shown}
 use Rattle.scan.proofs.first_shown.Goals as goal
 
 pub returns-then-is_closed : goal.returns-then-is_closed
 unfolding first_shown
-returns-then-is_closed c = rw (sym c.is_closed.ensures ∙ c.if-is_closed.true)
+returns-then-is_closed c = rw (sym c.if-is_closed.ensures)
 
-pub returns : goal.returns
+pub returns-else-is_closed : goal.returns-else-is_closed
 unfolding first_shown
-returns c = rw (sym c.is_closed.ensures ∙ c.if-is_closed.false)
+returns-else-is_closed c = rw (sym c.if-is_closed.ensures)

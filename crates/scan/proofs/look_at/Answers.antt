@@ -1,25 +1,24 @@
 -- `scan::look_at` meets its contract: the step's answer goes to the key's places, and if the key changed its code goes to the queue.
 use Prim.Native.Nat.{◌+◌, ◌*◌}
 use native.Mathlib.Omega.{arith}
-use mathlib.Core.Path.{sym, ◌∙◌}
-use mathlib.Core.Bool.{or-true, or-false}
+use mathlib.Core.Path.{sym, refl, ◌∙◌}
+use mathlib.Core.Bool.{false}
 use Rattle.keys.proofs.Laws.{code_place}
-use Rattle.state.specs.Module.{queue}
-use Rattle.scan.specs.Walk.{parts}
+use Rattle.scan.specs.Walk.{parts_of}
 use Rattle.scan.proofs.Walk.{moved_key}
 use Rattle.scan.proofs.look_at.Goals as goal
 
-pub returns-then-changed : goal.returns-then-changed
-returns-then-changed c =
+pub returns-then-x : goal.returns-then-x
+returns-then-x c =
     let a = c.args in
     let x = c.follow-x in
-    let code = code_place a.row.0 a.col.0 (omega arith) (omega arith) x.result.held ∙ sym c.code_at-code.ensures in
-    let e = moved_key a.bounce (13 * a.row.0 + a.col.0) a.sight (parts a.held.now a.run.now (queue a.places.now a.count.now a.relint.now) a.any.now) x.result x.ensures in
-    rw (e, c.if-changed.true, code, c.put.ensures, or-true a.any.now)
+    let code = code_place a.row.0 a.col.0 (omega arith) (omega arith) x.result.held ∙ sym c.code_at.ensures in
+    let e = moved_key a.bounce (13 * a.row.0 + a.col.0) a.sight (parts_of a.m.now false) x.result x.ensures in
+    rw (e, c.if-x.true, code) (c.put.ensures, refl)
 
-pub returns : goal.returns
-returns c =
-    let x = c.follow-x in
+pub returns-else-x : goal.returns-else-x
+returns-else-x c =
     let a = c.args in
-    let e = moved_key a.bounce (13 * a.row.0 + a.col.0) a.sight (parts a.held.now a.run.now (queue a.places.now a.count.now a.relint.now) a.any.now) x.result x.ensures in
-    rw (e, c.if-changed.false, or-false a.any.now)
+    let x = c.follow-x in
+    let e = moved_key a.bounce (13 * a.row.0 + a.col.0) a.sight (parts_of a.m.now false) x.result x.ensures in
+    rw (e, c.if-x.false) (refl, refl)

@@ -1,19 +1,24 @@
+use Prim.Native.Nat.{◌/◌}
 use native.Mathlib.Omega.{arith}
-use mathlib.Core.Path.{ap, ◌∙◌}
-use Rattle.state.specs.Module.{queue}
-use Rattle.scan.specs.Walk.{parts, at_rows}
-use Rattle.scan.proofs.Walk.{rows_none, rows_next}
-use borrow.Author.Rules.{rules}
+use mathlib.Core.Path.{◌≡◌, refl, sym}
+use mathlib.Core.Bool.{false}
+use Rattle.scan.specs.Walk.{at_rows, parts_of}
+use Rattle.scan.proofs.Walk.{rows_next}
 use Rattle.scan.proofs.look_at_rows.Goals as goal
 
 pub loop-row-init : goal.loop-row-init
-loop-row-init c = (search rules, search rules, rows_none _ _ _ _)
+unfolding at_rows
+loop-row-init c = (refl, refl)
 
 pub loop-row-preserved : goal.loop-row-preserved
 loop-row-preserved c =
+    let a = c.args in
+    let m = a.m.now in
     let l = c.loop-row in
-    let x = c.look_at_row.new in
-    (search rules, l.invariant.1, rows_next _ _ _ _ l.row {r = parts x.held x.run (queue x.places x.count x.relint) x.any} l.invariant.2 c.look_at_row.ensures)
+    rows_next m a.samples.now (parts_of m false) l.row l.invariant c.look_at_row-any.ensures
 
 pub returns : goal.returns
-returns c = c.loop-row.invariant.2 ∙ ap (at_rows _ _ _ _) (omega arith)
+returns c =
+    let l = c.loop-row in
+    let all : l.row ≡ c.args.m.now.size / 16 = omega arith in
+    rw (sym all) l.invariant

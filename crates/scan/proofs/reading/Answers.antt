@@ -1,12 +1,12 @@
 -- `scan::reading` meets its contract: by whether the contact is closed.
-use mathlib.Core.Path.{sym, ◌∙◌}
+use mathlib.Core.Path.{sym}
 use Rattle.contact.specs.Contact.{sight_of}
 use Rattle.scan.proofs.reading.Goals as goal
 
 pub returns-then-is_closed : goal.returns-then-is_closed
 unfolding sight_of
-returns-then-is_closed c = rw (sym c.is_closed.ensures ∙ c.if-is_closed.true)
+returns-then-is_closed c = rw (sym c.if-is_closed.ensures)
 
-pub returns : goal.returns
+pub returns-else-is_closed : goal.returns-else-is_closed
 unfolding sight_of
-returns c = rw (sym c.is_closed.ensures ∙ c.if-is_closed.false)
+returns-else-is_closed c = rw (sym c.if-is_closed.ensures)

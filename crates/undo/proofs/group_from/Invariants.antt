@@ -1,14 +1,10 @@
 -- `undo::group_from` meets its contract. The loop's invariant: the codes up to place i are a group that is open.
-use Prim.Native.Nat.{◌-◌, ◌<◌, ◌≤◌}
 use mathlib.Core.Path.{◌≡◌}
-use lib.ListN.{length, drop}
+use lib.ListN.{drop}
 use Rattle.undo.specs.Groups.{groups_of, ends_with_release}
 use Rattle.undo.proofs.Following.{open_at}
 use Rattle.undo.proofs.group_from.Given as goal
 
 abbrev pub invariant-loop-i : goal.invariant-loop-i
 invariant-loop-i l =
-    (l.at < l.i) × ((l.i ≤ length l.codes) × (groups_of (ends_with_release l.trim) l.trim (drop l.at l.codes) ≡ open_at (ends_with_release l.trim) l.trim l.codes l.at l.i))
-
-abbrev pub decreases-loop-i : goal.decreases-loop-i
-decreases-loop-i l = length l.codes - l.i
+    groups_of (ends_with_release l.trim) l.trim (drop l.at l.codes) ≡ open_at (ends_with_release l.trim) l.trim l.codes l.at l.i

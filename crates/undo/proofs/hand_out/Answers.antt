@@ -6,11 +6,7 @@ use borrow.Author.Rules.{rules}
 use Rattle.undo.proofs.hand_out.Goals as goal
 
 pub loop-at-init : goal.loop-at-init
-loop-at-init c =
-    (omega arith, (search rules, handed_none _ _ _ _))
-
-pub shape_of-ends-in_default : goal.shape_of-ends-in_default
-shape_of-ends-in_default c = c.loop-at.invariant.1.0
+loop-at-init c = (omega arith, (search rules, handed_none _ _ _ _))
 
 pub returns-in_default : goal.returns-in_default
 returns-in_default c =
@@ -28,26 +24,21 @@ overflow_add-groups c =
 pub loop-at-smaller : goal.loop-at-smaller
 loop-at-smaller c =
     let l = c.loop-at in
-    let r = next_group _ _ _ l.at _ _ _ c.next.ensures c.in-Group.is in
+    let r = next_group _ _ _ l.at _ _ c.in-Group.ensures in
     let later = group_later _ _ _ l.at _ r.1 in
     omega (arith, later, c.loop-at-test.true)
 
 pub loop-at-preserved : goal.loop-at-preserved
 loop-at-preserved c =
     let l = c.loop-at in
-    let stood = c.next.ensures in
-    let e = c.in-Group.is in
-    let r = next_group _ _ _ l.at _ _ _ stood e in
+    let r = next_group _ _ _ l.at _ _ c.in-Group.ensures in
     let written = c.put.ensures in (
       group_within _ _ _ l.at _ r.1,
       (
-        ap length written ∙ length-set l.ends l.groups c.in-Group.e ∙ l.invariant.1.0,
+        ap length written ∙ length-set l.ends l.groups c.in-Group.end ∙ l.invariant.1.0,
         handed_on _ _ _ l.groups l.at _ _ l.invariant.1.1 _ r.1 _ written,
       ),
     )
-
-pub shape_of-ends : goal.shape_of-ends
-shape_of-ends c = c.loop-at.invariant.1.0
 
 pub returns : goal.returns
 returns c =

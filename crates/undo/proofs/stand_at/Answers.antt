@@ -24,26 +24,22 @@ returns-in_default c =
 pub loop-at-smaller : goal.loop-at-smaller
 loop-at-smaller c =
     let l = c.loop-at in
-    let a = c.args in
-    let r = next_group _ _ _ l.at _ _ _ c.next.ensures c.in-Group.is in
+    let r = next_group _ _ _ l.at _ _ c.in-Group.ensures in
     let later = group_later _ _ _ l.at _ r.1 in
     omega (arith, later, c.loop-at-test.true)
 
 pub loop-at-preserved : goal.loop-at-preserved
 loop-at-preserved c =
     let l = c.loop-at in
-    let a = c.args in
-    let r = next_group _ _ _ l.at _ _ _ c.next.ensures c.in-Group.is in
-    l.invariant ∙ marks_skip _ _ _ l.at _ a.place r.1 c.loop-at-test.true
+    let r = next_group _ _ _ l.at _ _ c.in-Group.ensures in
+    l.invariant ∙ marks_skip _ _ _ l.at _ c.args.place r.1 c.loop-at-test.true
 
 pub returns-then-place-at : goal.returns-then-place-at
 returns-then-place-at c =
     let l = c.loop-at in
-    let a = c.args in
-    marks_past _ _ _ l.at a.place c.if-place-at.true ∙ sym l.invariant
+    marks_past _ _ _ l.at c.args.place c.if-place-at.true ∙ sym l.invariant
 
 pub returns : goal.returns
 returns c =
     let l = c.loop-at in
-    let a = c.args in
-    c.next-2.ensures ∙ sym (l.invariant ∙ marks_here _ _ _ l.at a.place (omega arith))
+    c.next-2.ensures ∙ sym (l.invariant ∙ marks_here _ _ _ l.at c.args.place (omega arith))

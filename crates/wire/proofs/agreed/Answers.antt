@@ -7,4 +7,4 @@ pub peek-requires : goal.peek-requires
 peek-requires c = run_blank _ _ (omega arith) c.requires.1
 
 pub returns : goal.returns
-returns c = (agreed_is _ _ _ _ _ (omega arith) c.before.before.before.before.peek.ensures c.shared.ensures.0, c.shared.ensures.1)
+returns c = (agreed_is _ _ _ _ _ (omega arith) c.peek.ensures c.shared.ensures.0, c.shared.ensures.1)

@@ -1,36 +1,27 @@
--- `wire::begin_read` meets its contract: each return is declined at its line of a read of one byte, or all that the read could give is made ahead.
+-- `wire::begin_read` meets its contract: declined as an access, or at the address, or all that can be read is made ahead.
 use native.Mathlib.Omega.{arith}
-use mathlib.Core.Path.{sym, ◌∙◌}
-use borrow.Author.Tests.{not-true, not-false}
-use Rattle.wire.proofs.Laws.{reads_unsound, reads_asleep, one_none, one_done, read_declined, read_begun, run_all}
+use mathlib.Core.Path.{◌≡◌}
+use borrow.Author.Rules.{rules}
+use Rattle.std.specs.Prelude.{Err}
+use Rattle.wire.proofs.Laws.{one_err, read_declined, run_ahead, read_none, read_begun}
 use Rattle.wire.proofs.begin_read.Goals as goal
 
-pub returns-then-not-is_sound : goal.returns-then-not-is_sound
-returns-then-not-is_sound c =
+pub returns-in_err-of_access : goal.returns-in_err-of_access
+returns-in_err-of_access c =
     let a = c.args in
-    let bad = sym c.is_sound.ensures ∙ not-true _ c.if-not-is_sound.true-raw in
-    read_declined a.m a.w _ c.idle-next.ensures 8 (reads_unsound a.m _ 1 bad) (λ e. omega arith)
-
-pub returns-then-asleep : goal.returns-then-asleep
-returns-then-asleep c =
-    let a = c.args in
-    let ok = sym c.is_sound.ensures ∙ not-false _ c.if-not-is_sound.false-raw in
-    read_declined a.m a.w _ c.idle-next.ensures 27 (reads_asleep a.m _ 1 ok c.if-asleep.true) (λ e. omega arith)
+    let r = c.in_err-of_access.field-0.0 in
+    let same : c.from_residual.result ≡ Err r = search rules in
+    rw same (read_declined a.m.now a.w.now _ c.open.ensures r (one_err a.m.now _ r c.in_err-of_access.ensures))
 
 pub returns-then-n-lt1 : goal.returns-then-n-lt1
 returns-then-n-lt1 c =
     let a = c.args in
-    let ok = sym c.is_sound.ensures ∙ not-false _ c.if-not-is_sound.false-raw in
-    read_declined a.m a.w _ c.idle-next.ensures 5
-    (one_none a.m a.w.first ok c.if-asleep.false _ c.longest-n.ensures.0 c.if-n-lt1.true) (λ e. omega arith)
+    read_none a.m.now a.w.now _ c.open.ensures _ _ c.from-first.ensures c.longest-n.ensures.0 c.in_ok-of_access.ensures c.if-n-lt1.true
 
 pub peek-requires : goal.peek-requires
-peek-requires c = run_all _ _ c.longest-n.ensures.0
+peek-requires c = run_ahead c.args.m.now c.args.w.now _ c.open.ensures _ _ c.from-first.ensures c.longest-n.ensures.0
 
 pub returns : goal.returns
 returns c =
-    let n = c.before.before.before.before in
     let a = c.args in
-    let ok = sym c.is_sound.ensures ∙ not-false _ c.if-not-is_sound.false-raw in
-    read_begun a.m a.w _ c.idle-next.ensures _ _
-    (one_done a.m a.w.first ok c.if-asleep.false _ c.longest-n.ensures.0 (omega arith)) c.longest-n.ensures.0 c.peek.ensures
+    read_begun a.m.now a.w.now _ c.open.ensures _ _ c.from-first.ensures c.longest-n.ensures.0 c.in_ok-of_access.ensures (omega (arith, c.if-n-lt1.false)) _ c.peek.ensures

@@ -1,25 +1,16 @@
--- `wire::begin_write` meets its contract: each return is declined at its line of an access, or the write is begun.
-use native.Mathlib.Omega.{arith}
-use mathlib.Core.Path.{sym, ◌∙◌}
-use borrow.Author.Tests.{not-true, not-false}
-use Rattle.calls.proofs.Laws.{unsound_access, asleep_first}
-use Rattle.wire.proofs.Laws.{write_declined, write_begun, reaches}
+-- `wire::begin_write` meets its contract: declined as an access, or begun.
+use mathlib.Core.Path.{◌≡◌}
+use borrow.Author.Rules.{rules}
+use Rattle.std.specs.Prelude.{Err}
+use Rattle.wire.proofs.Laws.{write_declined, write_begun}
 use Rattle.wire.proofs.begin_write.Goals as goal
 
-pub returns-then-not-is_sound : goal.returns-then-not-is_sound
-returns-then-not-is_sound c =
+pub returns-in_err-of_access : goal.returns-in_err-of_access
+returns-in_err-of_access c =
     let a = c.args in
-    let bad = sym c.is_sound.ensures ∙ not-true _ c.if-not-is_sound.true-raw in
-    write_declined a.m a.w _ c.idle-next.ensures 8 (unsound_access a.m _ bad) (λ e. omega arith)
-
-pub returns-then-asleep : goal.returns-then-asleep
-returns-then-asleep c =
-    let a = c.args in
-    let ok = sym c.is_sound.ensures ∙ not-false _ c.if-not-is_sound.false-raw in
-    write_declined a.m a.w _ c.idle-next.ensures 27 (asleep_first a.m _ ok c.if-asleep.true) (λ e. omega arith)
+    let r = c.in_err-of_access.field-0.0 in
+    let same : c.from_residual.result ≡ Err r = search rules in
+    rw same (write_declined a.m.now a.w.now _ c.open.ensures r c.in_err-of_access.ensures)
 
 pub returns : goal.returns
-returns c =
-    let a = c.args in
-    let ok = sym c.is_sound.ensures ∙ not-false _ c.if-not-is_sound.false-raw in
-    write_begun a.m a.w _ c.idle-next.ensures (reaches a.m ok c.if-asleep.false)
+returns c = write_begun _ _ _ c.open.ensures c.in_ok-of_access.ensures

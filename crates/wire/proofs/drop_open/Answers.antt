@@ -1,6 +1,8 @@
 -- `wire::drop_open` meets its contract.
-use Rattle.wire.proofs.Laws.{open_dropped}
+use mathlib.Core.Path.{refl}
+use Rattle.wire.specs.Wire.{drop_open}
 use Rattle.wire.proofs.drop_open.Goals as goal
 
 pub returns : goal.returns
-returns c = open_dropped c.args.w _ c.idle.ensures
+unfolding drop_open
+returns c = (refl, c.close.ensures)

@@ -1,9 +1,6 @@
--- `draw::grid` is safe: the loop goes on to the last row.
-use Rattle.std.proofs.Common.{◌≤◌, ◌-◌}
+-- `draw::grid` meets its contract: each turn writes where the others do.
+use Rattle.std.proofs.Common.{◌≡◌}
 use Rattle.answers.proofs.draw.grid.Given as goal
 
-abbrev pub invariant-loop-r : goal.invariant-loop-r
-invariant-loop-r l = l.r ≤ l.rows
-
-abbrev pub decreases-loop-r : goal.decreases-loop-r
-decreases-loop-r l = l.rows - l.r
+abbrev pub invariant-loop-row : goal.invariant-loop-row
+invariant-loop-row l = l.out.to ≡ l.initial.out.to

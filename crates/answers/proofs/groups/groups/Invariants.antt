@@ -1,9 +1,6 @@
--- `groups::groups` is safe: each turn writes one group.
-use Rattle.std.proofs.Common.{◌≤◌, ◌-◌, length}
+-- `groups::groups` meets its contract: each turn writes where the others do.
+use Rattle.std.proofs.Common.{◌≡◌}
 use Rattle.answers.proofs.groups.groups.Given as goal
 
-abbrev pub invariant-loop-i : goal.invariant-loop-i
-invariant-loop-i l = l.i ≤ length l.ends
-
-abbrev pub decreases-loop-i : goal.decreases-loop-i
-decreases-loop-i l = length l.ends - l.i
+abbrev pub invariant-loop-end : goal.invariant-loop-end
+invariant-loop-end l = l.out.to ≡ l.initial.out.to

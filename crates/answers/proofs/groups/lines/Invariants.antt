@@ -1,9 +1,6 @@
--- `groups::lines` is safe: each turn writes the line of one group.
-use Rattle.std.proofs.Common.{◌≤◌, ◌-◌, length}
+-- `groups::lines` meets its contract: each turn writes where the others do.
+use Rattle.std.proofs.Common.{◌≡◌}
 use Rattle.answers.proofs.groups.lines.Given as goal
 
-abbrev pub invariant-loop-i : goal.invariant-loop-i
-invariant-loop-i l = l.i ≤ length l.ends
-
-abbrev pub decreases-loop-i : goal.decreases-loop-i
-decreases-loop-i l = length l.ends - l.i
+abbrev pub invariant-loop-end : goal.invariant-loop-end
+invariant-loop-end l = l.out.to ≡ l.initial.out.to

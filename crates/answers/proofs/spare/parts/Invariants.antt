@@ -1,9 +1,6 @@
--- `spare::parts` is safe: the loop goes on to the last pin.
-use Rattle.std.proofs.Common.{◌≤◌, ◌-◌}
+-- `spare::parts` meets its contract: each turn writes where the others do.
+use Rattle.std.proofs.Common.{◌≡◌}
 use Rattle.answers.proofs.spare.parts.Given as goal
 
 abbrev pub invariant-loop-pin : goal.invariant-loop-pin
-invariant-loop-pin l = l.pin ≤ 19
-
-abbrev pub decreases-loop-pin : goal.decreases-loop-pin
-decreases-loop-pin l = 19 - l.pin
+invariant-loop-pin l = l.out.to ≡ l.initial.out.to

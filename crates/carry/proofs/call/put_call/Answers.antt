@@ -1,76 +1,80 @@
 -- `carry::call::put_call` meets its contract: the parts of the record are laid one behind the other.
 use Prim.Native.Nat.{◌-◌}
 use native.Mathlib.Omega.{arith}
-use mathlib.Core.Path.{◌≡◌}
+use mathlib.Core.Path.{◌≡◌, sym, ap, ◌∙◌}
 use lib.ListN.{length}
 use lib.Seq.{length-take-le}
 use borrow.Author.Rules.{rules}
+use Rattle.bits.specs.Bits.{bits_of, laid}
 use Rattle.carry.proofs.Records.{write_fits, read_fits, bits_look, bits_write, bits_read, bits_reset, look_laid, write_laid, read_laid, reset_laid}
 use Rattle.carry.proofs.call.put_call.Goals as goal
 
 pub put-requires : goal.put-requires
 put-requires c =
-    let n = bits_look c.args.call c.requires.0 c.in-0.is in
+    let n = bits_look c.args.call.now c.requires.0 (sym c.in-Look.ensures) in
     (search rules, search rules, search rules, omega (arith, c.requires.2))
 
 pub put_all-requires : goal.put_all-requires
 put_all-requires c =
-    let long : length c.args.call.values ≡ 32 = search rules in
-    let n = bits_look c.args.call c.requires.0 c.in-0.is in
-    let eight = length-take-le 8 c.args.call.values (omega arith) in
-    (omega (arith, c.requires.1), omega arith, search rules, search rules, omega (arith, c.requires.2, c.out-1.given))
+    let long : length c.args.call.now.values ≡ 32 = search rules in
+    let n = bits_look c.args.call.now c.requires.0 (sym c.in-Look.ensures) in
+    let eight = length-take-le 8 c.args.call.now.values (omega arith) in
+    (omega (arith, c.requires.1), omega arith, search rules, search rules, omega (arith, c.requires.2, c.put.auto.out))
 
 pub put_access-requires : goal.put_access-requires
 put_access-requires c =
-    let k = c.in-1.is in
-    let n = bits_write c.args.call k in
-    (c.requires.1, (write_fits c.args.call c.requires.0 k).0, omega (arith, c.requires.2))
+    let k = sym c.in-Write.ensures in
+    let n = bits_write c.args.call.now k in
+    (c.requires.1, (write_fits c.args.call.now c.requires.0 k).0, omega (arith, c.requires.2))
 
-pub put_all-requires-in-1 : goal.put_all-requires-in-1
-put_all-requires-in-1 c =
-    let k = c.in-1.is in
-    let long : length c.args.call.values ≡ 32 = search rules in
-    let f = write_fits c.args.call c.requires.0 k in
-    let n = bits_write c.args.call k in
-    let all = length-take-le c.args.call.count c.args.call.values (omega arith) in
-    (omega (arith, c.requires.1), omega arith, search rules, search rules, omega (arith, c.requires.2, c.out-in-1-1.given))
+pub put_all-requires-in-Write : goal.put_all-requires-in-Write
+put_all-requires-in-Write c =
+    let k = sym c.in-Write.ensures in
+    let long : length c.args.call.now.values ≡ 32 = search rules in
+    let f = write_fits c.args.call.now c.requires.0 k in
+    let n = bits_write c.args.call.now k in
+    let e = c.from-in-Write.ensures in
+    let all = length-take-le (c.from-in-Write.result - 0) c.args.call.now.values (omega arith) in
+    (omega (arith, c.requires.1), omega arith, search rules, search rules, omega (arith, c.requires.2, c.put_access.auto.out))
 
-pub put_access-requires-in-2 : goal.put_access-requires-in-2
-put_access-requires-in-2 c =
-    let k = c.in-2.is in
-    let n = bits_read c.args.call k in
-    (c.requires.1, (read_fits c.args.call c.requires.0 k).0, omega (arith, c.requires.2))
+pub put_access-requires-in-Read : goal.put_access-requires-in-Read
+put_access-requires-in-Read c =
+    let k = sym c.in-Read.ensures in
+    let n = bits_read c.args.call.now k in
+    (c.requires.1, (read_fits c.args.call.now c.requires.0 k).0, omega (arith, c.requires.2))
 
-pub put-requires-in_default : goal.put-requires-in_default
-put-requires-in_default c =
-    let n = bits_reset c.args.call (omega arith) in
+pub put-requires-in-Reset : goal.put-requires-in-Reset
+put-requires-in-Reset c =
+    let n = bits_reset c.args.call.now (sym c.in-Reset.ensures) in
     (omega (arith, c.requires.1), search rules, search rules, omega (arith, c.requires.2))
 
-pub returns-in-0 : goal.returns-in-0
-returns-in-0 c =
+pub returns-in-Look : goal.returns-in-Look
+returns-in-Look c =
     let a = c.args in
-    look_laid a.out.now a.bit (omega (arith, c.requires.2)) a.call c.requires.0 (search rules) c.in-0.is _ _
-    c.put.ensures c.put_all.ensures
+    let k = c.put.ensures ∙ ap (λ n. laid a.out.now a.bit (bits_of 2 n)) c.from.ensures in
+    look_laid a.out.now a.bit (omega (arith, c.requires.2)) a.call.now c.requires.0 (search rules) (sym c.in-Look.ensures) _ _ k c.put_all.ensures
 
-pub returns-in-1 : goal.returns-in-1
-returns-in-1 c =
+pub returns-in-Write : goal.returns-in-Write
+returns-in-Write c =
     let a = c.args in
-    let k = c.in-1.is in
-    write_laid a.out.now a.bit (omega (arith, c.requires.2)) a.call c.requires.0 (search rules) k (a.call.count - 0) (omega arith) _ _
-    c.put_access.ensures c.put_all-in-1.ensures
+    let e = c.from-in-Write.ensures in
+    write_laid a.out.now a.bit (omega (arith, c.requires.2)) a.call.now c.requires.0 (search rules) (sym c.in-Write.ensures) (c.from-in-Write.result - 0) (omega arith) _ _
+    c.put_access.ensures c.put_all-in-Write.ensures
 
-pub returns-in-2 : goal.returns-in-2
-returns-in-2 c =
+pub returns-in-Read : goal.returns-in-Read
+returns-in-Read c =
     let a = c.args in
-    read_laid a.call a.out.now a.bit _ c.in-2.is c.put_access-in-2.ensures
+    read_laid a.call.now a.out.now a.bit _ (sym c.in-Read.ensures) c.put_access-in-Read.ensures
 
-pub returns-in_default : goal.returns-in_default
-returns-in_default c =
+pub returns-in-Reset : goal.returns-in-Reset
+returns-in-Reset c =
     let a = c.args in
-    reset_laid a.call a.out.now a.bit _ (omega arith) c.put-in_default.ensures
+    let k = c.put-in-Reset.ensures ∙ ap (λ n. laid a.out.now a.bit (bits_of 2 n)) c.from-in-Reset.ensures in
+    reset_laid a.call.now a.out.now a.bit _ (sym c.in-Reset.ensures) k
 
-pub slice_bounds-put_all-end-in-1 : goal.slice_bounds-put_all-end-in-1
-slice_bounds-put_all-end-in-1 c =
-    let long : length c.args.call.values ≡ 32 = search rules in
-    let f = write_fits c.args.call c.requires.0 c.in-1.is in
+pub slice_bounds-put_all-end-in-Write : goal.slice_bounds-put_all-end-in-Write
+slice_bounds-put_all-end-in-Write c =
+    let long : length c.args.call.now.values ≡ 32 = search rules in
+    let f = write_fits c.args.call.now c.requires.0 (sym c.in-Write.ensures) in
+    let e = c.from-in-Write.ensures in
     omega arith

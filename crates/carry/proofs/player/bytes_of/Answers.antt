@@ -1,17 +1,13 @@
-use native.Mathlib.Omega.{arith}
-use mathlib.Core.Path.{◌≡◌, ap, ◌∙◌}
-use borrow.Author.Rules.{rules}
-use Rattle.carry.proofs.Playing.{lowered, lowered_none, lowered_next, lowered_all}
+use Rattle.std.proofs.Common.{arith, rules, ◌≡◌, length, sym, ◌∙◌}
+use Rattle.std.proofs.lemmas.List.{ext_get_or, get_or-map}
+use Rattle.carry.specs.Calls.{low}
+use Rattle.carry.proofs.Playing.{map_length}
 use Rattle.carry.proofs.player.bytes_of.Goals as goal
 
-pub loop-i-init : goal.loop-i-init
-loop-i-init c = (search rules, lowered_none c.args.values)
-
-pub loop-i-preserved : goal.loop-i-preserved
-loop-i-preserved c = (search rules, lowered_next c.args.values c.loop-i-test.true c.loop-i.invariant.1)
-
 pub returns : goal.returns
+unfolding low
 returns c =
-    let values = c.args.values in
-    let all : c.loop-i.i ≡ 32 = omega arith in
-    c.loop-i.invariant.1 ∙ ap (lowered values) all ∙ lowered_all values (search rules)
+    let values = c.args.values.now in
+    let b = c.loop-i.invariant.long in
+    let v : length values ≡ 32 = search rules in
+    ext_get_or 0 _ _ (b ∙ sym (map_length low values ∙ v)) (λ k h. c.loop-i.invariant.low k (omega arith) ∙ sym (get_or-map low values k 0 0 (omega arith)))

@@ -1,11 +1,12 @@
--- `reader::check` meets its contract. The loop's invariant: the place is a boundary between records.
-use Prim.Native.Nat.{◌+◌, ◌*◌, ◌-◌}
+-- `carry::reader::check` meets its contract. The loop's invariant: the place is a boundary between records.
+use Prim.Native.Nat.{◌*◌, ◌-◌}
 use lib.ListN.{length}
+use Rattle.carry.specs.Places.{bits_to}
 use Rattle.carry.proofs.Reading.{Boundary}
 use Rattle.carry.proofs.reader.check.Given as goal
 
-abbrev pub invariant-loop-rest : goal.invariant-loop-rest
-invariant-loop-rest l = Boundary l.bytes l.byte l.bit
+abbrev pub invariant-loop-size : goal.invariant-loop-size
+invariant-loop-size l = Boundary l.bytes l.place
 
-abbrev pub decreases-loop-rest : goal.decreases-loop-rest
-decreases-loop-rest l = length l.bytes * 8 - (l.byte * 8 + l.bit)
+abbrev pub decreases-loop-size : goal.decreases-loop-size
+decreases-loop-size l = length l.bytes * 8 - bits_to l.place

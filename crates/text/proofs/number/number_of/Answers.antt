@@ -1,46 +1,37 @@
-use native.Mathlib.Omega.{arith}
-use mathlib.Core.Path.{refl, ◌∙◌}
-use Rattle.text.proofs.Laws.{product_most, digits_end, digits_no, digits_yes, told_end, told_yes, number_none, number_no_digit, number_large, number_value}
-use borrow.Author.Rules.{rules}
+use Rattle.std.proofs.Common.{arith, refl, ◌∙◌}
+use Rattle.std.proofs.lemmas.Grind.{common_steps}
+use Rattle.std.proofs.lemmas.Result.{err_from_is_err_and}
+use Rattle.text.proofs.Laws.{digits_end, digits_no, digits_yes, told_end, told_yes, number_none, number_no_digit, number_large, number_value}
 use Rattle.text.proofs.number.number_of.Goals as goal
 
-pub returns-then-word-lt1 : goal.returns-then-word-lt1
-returns-then-word-lt1 c = number_none _ _ _ c.if-word-lt1.true
+pub returns-then-is_empty : goal.returns-then-is_empty
+returns-then-is_empty c = number_none _ _ _ (grind (arith, common_steps))
 
-pub loop-i-init : goal.loop-i-init
-loop-i-init c = (search rules, search rules, refl, refl)
+pub returns-in_err-digit_in : goal.returns-in_err-digit_in
+returns-in_err-digit_in c =
+    let l = c.loop-byte in
+    let f = c.in_err-digit_in.ensures in
+    let p = err_from_is_err_and c.from_residual.result c.from_residual.ensures.1 in
+    rw (p.1, p.2, f.0) (number_no_digit _ _ _ (grind (arith, common_steps)) (l.invariant.1 ∙ digits_no _ _ l.byte-index c.loop-byte-test.true _ refl f.1))
 
-pub returns-then-base-digit : goal.returns-then-base-digit
-returns-then-base-digit c =
-    let l = c.loop-i in
-    number_no_digit _ _ _ c.if-word-lt1.false (l.invariant.2 ∙ digits_no _ _ l.i c.loop-i-test.true _ c.digit_of-digit.ensures.0 c.if-base-digit.true)
-
-pub overflow_mul-value : goal.overflow_mul-value
-overflow_mul-value c = let l = c.loop-i in let m = product_most l.value c.args.base (search rules) (search rules) in record { fits = omega (arith, m) }
-
-pub overflow_add-value : goal.overflow_add-value
-overflow_add-value c = let l = c.loop-i in let m = product_most l.value c.args.base (search rules) (search rules) in record { fits = omega (arith, m) }
-
-pub loop-i-preserved : goal.loop-i-preserved
-loop-i-preserved c =
-    let l = c.loop-i in
-    let h = c.loop-i-test.true in
-    let d = c.digit_of-digit.ensures.0 in (
-      search rules,
-      search rules,
-      l.invariant.2 ∙ digits_yes _ _ l.i h _ d c.if-base-digit.false,
-      l.invariant.3 ∙ told_yes _ _ l.value _ l.i h _ d c.if-base-digit.false _ c.least-value.ensures.0,
+pub loop-byte-preserved : goal.loop-byte-preserved
+loop-byte-preserved c =
+    let l = c.loop-byte in
+    let h = c.loop-byte-test.true in
+    let d = c.in_ok-digit_in.ensures in (
+      omega arith,
+      l.invariant.1 ∙ digits_yes _ _ l.byte-index h _ d.0 d.1,
+      l.invariant.2 ∙ told_yes _ _ l.value _ l.byte-index h _ d.0 d.1 _ c.min-value.ensures,
     )
 
 pub returns-then-value-over : goal.returns-then-value-over
 returns-then-value-over c =
-    let l = c.loop-i in
-    let a = c.args in
-    let e = l.invariant.3 ∙ told_end _ _ l.value _ l.i c.loop-i-test.false l.invariant.1 in
-    number_large _ _ _ c.if-word-lt1.false (l.invariant.2 ∙ digits_end _ _ l.i c.loop-i-test.false) (omega (arith, e, c.if-value-over.true))
+    let l = c.loop-byte in
+    let e = l.invariant.2 ∙ told_end _ _ l.value _ l.byte-index c.loop-byte-test.false l.invariant.0 in
+    number_large _ _ _ (grind (arith, common_steps)) (l.invariant.1 ∙ digits_end _ _ l.byte-index c.loop-byte-test.false) (omega (arith, e, c.if-value-over.true))
 
-pub returns : goal.returns
-returns c =
-    let l = c.loop-i in
-    let e = l.invariant.3 ∙ told_end _ _ l.value _ l.i c.loop-i-test.false l.invariant.1 in
-    number_value _ _ _ c.if-word-lt1.false (l.invariant.2 ∙ digits_end _ _ l.i c.loop-i-test.false) _ (omega (arith, e)) (omega arith)
+pub returns-else-value-over : goal.returns-else-value-over
+returns-else-value-over c =
+    let l = c.loop-byte in
+    let e = l.invariant.2 ∙ told_end _ _ l.value _ l.byte-index c.loop-byte-test.false l.invariant.0 in
+    number_value _ _ _ (grind (arith, common_steps)) (l.invariant.1 ∙ digits_end _ _ l.byte-index c.loop-byte-test.false) _ (omega (arith, e)) (omega arith)

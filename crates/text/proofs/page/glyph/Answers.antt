@@ -1,12 +1,13 @@
 -- `page::glyph` meets its contract: each return rewrites with the test that led there.
-use borrow.Author.Tests.{lt-ltb, le-ltb}
+use Rattle.std.proofs.Common.{arith}
+use Rattle.std.proofs.lemmas.Grind.{common_steps}
 use Rattle.text.specs.Pages.{glyph}
 use Rattle.text.proofs.page.glyph.Goals as goal
 
-pub returns-then-d-lt10 : goal.returns-then-d-lt10
+pub returns-in-0-to-9 : goal.returns-in-0-to-9
 unfolding glyph
-returns-then-d-lt10 c = rw (lt-ltb _ _ c.if-d-lt10.true)
+returns-in-0-to-9 c = grind (arith, common_steps)
 
-pub returns : goal.returns
+pub returns-in_default : goal.returns-in_default
 unfolding glyph
-returns c = rw (le-ltb _ _ c.if-d-lt10.false)
+returns-in_default c = grind (arith, common_steps)

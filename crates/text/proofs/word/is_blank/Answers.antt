@@ -1,12 +1,13 @@
 -- `word::is_blank` meets its contract: each return rewrites with the test that led there.
-use borrow.Author.Tests.{eq-eqb, ne_eqb}
+use Rattle.std.proofs.Common.{arith}
+use Rattle.std.proofs.lemmas.Grind.{common_steps}
 use Rattle.text.specs.Line.{blank}
 use Rattle.text.proofs.word.is_blank.Goals as goal
 
 pub returns-then-byte-eq32 : goal.returns-then-byte-eq32
 unfolding blank
-returns-then-byte-eq32 c = rw (eq-eqb _ _ c.if-byte-eq32.true)
+returns-then-byte-eq32 c = grind (arith, common_steps)
 
-pub returns : goal.returns
+pub returns-else-byte-eq32 : goal.returns-else-byte-eq32
 unfolding blank
-returns c = rw (ne_eqb _ _ c.if-byte-eq32.false)
+returns-else-byte-eq32 c = grind (arith, common_steps)

@@ -1,0 +1,6 @@
+-- `draw::codes` meets its contract: each turn writes where the others do.
+use Rattle.std.proofs.Common.{◌≡◌}
+use Rattle.answers.proofs.draw.codes.Given as goal
+
+abbrev pub invariant-loop-code : goal.invariant-loop-code
+invariant-loop-code l = l.out.to ≡ l.initial.out.to

@@ -1,9 +1,0 @@
--- `block::looked` is safe: each turn takes the eight samples of one look.
-use Rattle.std.proofs.Common.{◌≤◌, ◌-◌}
-use Rattle.console.proofs.block.looked.Given as goal
-
-abbrev pub invariant-loop-i : goal.invariant-loop-i
-invariant-loop-i l = l.i ≤ l.n
-
-abbrev pub decreases-loop-i : goal.decreases-loop-i
-decreases-loop-i l = l.n - l.i

@@ -1,9 +1,0 @@
--- `fingers::looks` is safe: each turn makes one look.
-use Rattle.std.proofs.Common.{◌≤◌, ◌-◌}
-use Rattle.console.proofs.fingers.looks.Given as goal
-
-abbrev pub invariant-loop-i : goal.invariant-loop-i
-invariant-loop-i l = l.i ≤ l.count
-
-abbrev pub decreases-loop-i : goal.decreases-loop-i
-decreases-loop-i l = l.count - l.i

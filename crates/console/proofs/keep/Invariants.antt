@@ -1,9 +1,0 @@
--- `keep` meets its contract: the loop goes on to the last byte that is kept.
-use Rattle.std.proofs.Common.{◌≤◌, ◌-◌, ◌≡◌, length}
-use Rattle.console.proofs.keep.Given as goal
-
-abbrev pub invariant-loop-i : goal.invariant-loop-i
-invariant-loop-i l = (l.i ≤ l.n) × (length l.input ≡ length l.initial.input)
-
-abbrev pub decreases-loop-i : goal.decreases-loop-i
-decreases-loop-i l = l.n - l.i
