@@ -1,6 +1,7 @@
 // The panel drawn for a person.
 ghost use Rattle.std.specs.Prelude.{◌≡◌};
 
+use crate::change::change_of;
 use crate::out::Output;
 use crate::spare;
 use keys::{Col, KEYS, Row, SPECIAL};
@@ -71,14 +72,14 @@ fn grid(out: &mut Output, m: &Module)
 }
 
 // The column of a code.
-fn column(out: &mut Output, col: u8)
+fn column(out: &mut Output, col: Col)
     ensures { out.new.to ≡ out.old.to }
 {
-    if col == SPECIAL {
+    if col.0 == SPECIAL {
         out.text(b" SF\n");
     } else {
         out.text(b" col ");
-        out.decimal(u32::from(col));
+        out.decimal(u32::from(col.0));
         out.end();
     }
 }
@@ -87,15 +88,16 @@ fn column(out: &mut Output, col: u8)
 fn name(out: &mut Output, code: u8)
     ensures { out.new.to ≡ out.old.to }
 {
-    let told: &[u8] = if code < 128 {
+    let change = change_of(code);
+    let told: &[u8] = if change.pressed {
         b" press row "
     } else {
         b" release row "
     };
     out.hex(b"    ", code);
     out.text(told);
-    out.decimal(u32::from(code % 128 / 16));
-    column(out, code % 16);
+    out.decimal(u32::from(change.row.0));
+    column(out, change.col);
 }
 
 // The codes that wait, oldest first, and what they tell.

@@ -3,37 +3,29 @@ ghost use Rattle.std.specs.Prelude.{◌≡◌};
 
 use crate::out::Output;
 
-// The file to play can't be read.
-pub fn unreadable(out: &mut Output)
-    ensures { out.new.to ≡ out.old.to }
-{
-    out.text(b"? the file to play can't be read\n");
+// The file to play can't be read; it is too long; it is no packed list. The file to record to can't be written. The program's words name no files.
+#[derive(Clone, Copy, Debug, PartialEq, Eq)]
+pub enum Trouble {
+    Unreadable,
+    TooLong,
+    NoList,
+    Unwritable,
+    Unknown,
 }
 
-// The file to play is too long.
-pub fn too_long(out: &mut Output)
+// What is wrong.
+pub fn told(out: &mut Output, trouble: Trouble)
     ensures { out.new.to ≡ out.old.to }
 {
-    out.text(b"? the file to play is too long (1048576 bytes at most)\n");
-}
-
-// The file to play is no packed list.
-pub fn no_list(out: &mut Output)
-    ensures { out.new.to ≡ out.old.to }
-{
-    out.text(b"? 20 the file to play is no packed list: cut short or padded wrongly\n");
-}
-
-// The file to record to can't be written.
-pub fn unwritable(out: &mut Output)
-    ensures { out.new.to ≡ out.old.to }
-{
-    out.text(b"? the file to record to can't be written\n");
-}
-
-// The program's words name no files.
-pub fn unknown(out: &mut Output)
-    ensures { out.new.to ≡ out.old.to }
-{
-    out.text(b"? unknown words behind the program's name (record FILE, play FILE, or both)\n");
+    out.text(match trouble {
+        Trouble::Unreadable => b"? the file to play can't be read\n".as_slice(),
+        Trouble::TooLong => b"? the file to play is too long (1048576 bytes at most)\n",
+        Trouble::NoList => {
+            b"? 20 the file to play is no packed list: cut short or padded wrongly\n"
+        }
+        Trouble::Unwritable => b"? the file to record to can't be written\n",
+        Trouble::Unknown => {
+            b"? unknown words behind the program's name (record FILE, play FILE, or both)\n"
+        }
+    });
 }

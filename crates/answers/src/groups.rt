@@ -1,6 +1,7 @@
 // Undo groups: what stands at a place, all groups of a list of codes, and the list drawn for a person.
 ghost use Rattle.std.specs.Prelude.{◌≡◌};
 
+use crate::change::{Change, change_of};
 use crate::out::Output;
 use keys::SPECIAL;
 use numbers::Refusal;
@@ -67,13 +68,15 @@ pub fn stretch(out: &mut Output, trim: u8, codes: &[u8], place: usize)
     }
 }
 
-// The groups that end at these places, by their places.
-fn groups(out: &mut Output, ends: &[usize])
+// Tells of each of the groups that end at these places, by its first place and the place behind its last.
+fn each<F: Fn(&mut Output, usize, usize)>(out: &mut Output, ends: &[usize], tell: F)
+    requires callable { F.IsAlwaysCallable tell }
+    requires keeps { (o : _) (first : _) (end : _) (r : _) (after : _) → F.post tell o first end r after → after.now.to ≡ o.now.to }
     ensures { out.new.to ≡ out.old.to }
 {
     let mut first = 0;
     for end in ends {
-        group(out, first, *end);
+        tell(out, first, *end);
         first = *end;
     }
 }
@@ -87,7 +90,7 @@ pub fn all(out: &mut Output, trim: u8, codes: &[u8])
     match undo::walk(trim, codes, &mut ends) {
         Ok(walked) => {
             out.put(b'0');
-            groups(out, &ends[..walked.groups.min(MOST)]);
+            each(out, &ends[..walked.groups.min(MOST)], group);
             if walked.tail < codes.len() {
                 count(out, b" open ", walked.tail);
                 out.end();
@@ -103,13 +106,13 @@ pub fn all(out: &mut Output, trim: u8, codes: &[u8])
 fn key(out: &mut Output, code: u8)
     ensures { out.new.to ≡ out.old.to }
 {
-    let col = code % 16;
-    out.decimal(u32::from(code % 128 / 16));
+    let Change { row, col, .. } = change_of(code);
+    out.decimal(u32::from(row.0));
     out.put(b'.');
-    if col == SPECIAL {
+    if col.0 == SPECIAL {
         out.text(b"SF");
     } else {
-        out.decimal(u32::from(col));
+        out.decimal(u32::from(col.0));
     }
 }
 
@@ -117,7 +120,11 @@ fn key(out: &mut Output, code: u8)
 fn change(out: &mut Output, code: u8)
     ensures { out.new.to ≡ out.old.to }
 {
-    out.text(if code < 128 { b" +" } else { b" -" });
+    out.text(if change_of(code).pressed {
+        b" +"
+    } else {
+        b" -"
+    });
     key(out, code);
 }
 
@@ -161,17 +168,6 @@ fn finished(out: &mut Output, trim: u8, codes: &[u8], first: usize, end: usize)
     }
 }
 
-// The lines of the groups that end at these places.
-fn lines(out: &mut Output, trim: u8, codes: &[u8], ends: &[usize])
-    ensures { out.new.to ≡ out.old.to }
-{
-    let mut first = 0;
-    for end in ends {
-        finished(out, trim, codes, first, *end);
-        first = *end;
-    }
-}
-
 // The line of the group that is open at the end, if there is one.
 fn tail(out: &mut Output, codes: &[u8], first: usize)
     ensures { out.new.to ≡ out.old.to }
@@ -185,7 +181,7 @@ fn tail(out: &mut Output, codes: &[u8], first: usize)
 fn disagreement(out: &mut Output, place: usize, code: u8)
     ensures { out.new.to ≡ out.old.to }
 {
-    let told: &[u8] = if code < 128 {
+    let told: &[u8] = if change_of(code).pressed {
         b" presses a key that is down:"
     } else {
         b" lets go a key that is up:"
@@ -217,7 +213,8 @@ fn wrong_code(out: &mut Output, codes: &[u8])
 fn declined(out: &mut Output, trim: u8, codes: &[u8])
     ensures { out.new.to ≡ out.old.to }
 {
-    if 127 < trim || !keys::is_code(trim) {
+    // a list of no codes is declined for its trim key alone
+    if undo::walk(trim, &[], &mut []).is_err() {
         out.hex(b"23 the trim key's code is no press of a key: ", trim);
         out.end();
     } else {
@@ -233,7 +230,11 @@ fn body(out: &mut Output, trim: u8, codes: &[u8], ends: &[usize], open: usize)
     key(out, trim);
     count(out, b"; codes: ", codes.len());
     out.text(b"; + press, - release\n");
-    lines(out, trim, codes, ends);
+    each(
+        out,
+        ends,
+        |out, first, end| finished(out, trim, codes, first, end),
+    );
     tail(out, codes, open);
 }
 

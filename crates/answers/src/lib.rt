@@ -1,6 +1,7 @@
 // What the console writes: answers in pieces, the panel and the undo groups drawn, the lists of commands and numbers, and what is wrong with a line.
 #![tactic(auto)]
 
+mod change;
 pub mod draw;
 pub mod files;
 pub mod groups;

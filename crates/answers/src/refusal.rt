@@ -3,6 +3,7 @@ ghost use Rattle.std.specs.Prelude.{◌≡◌};
 
 use crate::out::Output;
 use text::number::Fault;
+use text::word::Word;
 
 // What is wanted of a word: a sample; an address or a byte; how many bytes to read; a row or a column that is asked for; the row and the column of a contact;
 // how many looks to make; the bytes of a buffer; the digits of a packed list; a code; by which rule and at which place a list of codes is cut;
@@ -24,13 +25,12 @@ pub enum Kind {
     Pins,
 }
 
-// What is wrong, the word that is, by its places, and what was wanted of it.
+// What is wrong, the word that is, and what was wanted of it.
 #[derive(Clone, Copy, Debug, PartialEq, Eq)]
 pub struct Wrong {
     pub fault: Fault,
     pub kind: Kind,
-    pub start: usize,
-    pub end: usize,
+    pub word: Word,
 }
 
 // How much is shown of a word.
@@ -110,8 +110,8 @@ fn range_wanted(kind: Kind) -> &'static [u8] {
 fn word_told(out: &mut Output, line: &[u8], wrong: Wrong, not: &[u8], wanted: &[u8])
     ensures { out.new.to ≡ out.old.to }
 {
-    let end = wrong.end.min(line.len());
-    let start = wrong.start.min(end);
+    let end = wrong.word.end.min(line.len());
+    let start = wrong.word.start.min(end);
     out.text(not);
     quoted(out, &line[start..end]);
     out.text(wanted);

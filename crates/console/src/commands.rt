@@ -41,20 +41,13 @@ fn value_of(word: &[u8], kind: Kind) -> Result<u32, Fault> {
     }
 }
 
-// What is wrong with a word.
-pub(crate) fn of_word(fault: Fault, kind: Kind, w: Word) -> Wrong {
-    let Word { start, end } = w;
+// What is wrong with no word of its own.
+fn of_line(fault: Fault, kind: Kind) -> Wrong {
     Wrong {
         fault,
         kind,
-        start,
-        end,
+        word: Word { start: 0, end: 0 },
     }
-}
-
-// What is wrong with no word of its own.
-fn of_line(fault: Fault, kind: Kind) -> Wrong {
-    of_word(fault, kind, Word { start: 0, end: 0 })
 }
 
 // A word too many.
@@ -80,10 +73,10 @@ pub(crate) fn number_at(line: &[u8], from: usize, kind: Kind) -> Result<(u32, us
     requires { from ≤ length line.now }
     ensures { IfOk result (λ told. told.1 ≤ length line.now) }
 {
-    let w = word_from(line, from);
-    match value_of(&line[w.start..w.end], kind) {
-        Ok(number) => Ok((number, w.end)),
-        Err(fault) => Err(of_word(fault, kind, w)),
+    let word = word_from(line, from);
+    match value_of(&line[word.start..word.end], kind) {
+        Ok(number) => Ok((number, word.end)),
+        Err(fault) => Err(Wrong { fault, kind, word }),
     }
 }
 
@@ -150,7 +143,11 @@ pub(crate) fn bytes_of(line: &[u8], bytes: &mut [u8]) -> Result<usize, Wrong>
         } else if is_blank(*byte) {
             start = i + 1;
         } else {
-            return Err(of_word(Fault::NoDigit, Kind::Packed, word_from(line, start)));
+            return Err(Wrong {
+                fault: Fault::NoDigit,
+                kind: Kind::Packed,
+                word: word_from(line, start),
+            });
         }
     }
     if digits % 2 == 1 {

@@ -26,13 +26,21 @@ fn codes_at(line: &[u8], from: usize, list: &mut [u16], codes: &mut [u8]) -> Res
     Ok(as_bytes(&list[..count], codes))
 }
 
+// TRIM, from a place on: the trim key's code, and the place behind it.
+fn trim_at(line: &[u8], from: usize) -> Result<(u8, usize), Wrong>
+    requires { from ≤ length line.now }
+    ensures { IfOk result (λ told. told.1 ≤ length line.now) }
+{
+    let (code, end) = number_at(line, from, Kind::Code)?;
+    Ok(((code % 256) as u8, end))
+}
+
 // RULE TRIM: the trim key's code, and the place behind it.
 fn trim_of(line: &[u8]) -> Result<(u8, usize), Wrong>
     ensures { IfOk result (λ told. told.1 ≤ length line.now) }
 {
     let (_, end) = number_at(line, 0, Kind::Rule)?;
-    let (trim, end) = number_at(line, end, Kind::Code)?;
-    Ok(((trim % 256) as u8, end))
+    trim_at(line, end)
 }
 
 // RULE TRIM PLACE C0 C1 ..
@@ -95,8 +103,7 @@ fn undo_list(s: &mut Session, rest: &[u8], from: usize, trim: u8) -> Result<(), 
 
 // `undo TRIM`, `undo TRIM : C0 C1 ..`
 pub(crate) fn undo(s: &mut Session, rest: &[u8]) -> Result<(), Wrong> {
-    let (code, end) = number_at(rest, 0, Kind::Code)?;
-    let trim = (code % 256) as u8;
+    let (trim, end) = trim_at(rest, 0)?;
     if !is_end(rest, end) {
         return undo_list(s, rest, end, trim);
     }

@@ -1,7 +1,7 @@
 // `pack ROOM CALL ; CALL ..`: a line of calls as a packed list.
 ghost use Rattle.std.specs.Prelude.{◌≡◌, ◌≤◌, length, IfSome};
 
-use crate::commands::{number_at, of_word};
+use crate::commands::number_at;
 use crate::reply::listed;
 use crate::session::Session;
 use crate::typed::{call_of, form_of, kind_of};
@@ -29,13 +29,18 @@ fn store(call: &Call, numbers: &mut [u16])
 }
 
 // A part of the line whose first word names no call.
-fn unnamed(out: &mut Output, part: &[u8], w: Word) {
-    let fault = if w.start == w.end {
+fn unnamed(out: &mut Output, part: &[u8], word: Word) {
+    let fault = if word.start == word.end {
         Fault::Missing
     } else {
         Fault::Unknown
     };
-    refusal_of_call(out, part, of_word(fault, Kind::Byte, w), b"");
+    let wrong = Wrong {
+        fault,
+        kind: Kind::Byte,
+        word,
+    };
+    refusal_of_call(out, part, wrong, b"");
 }
 
 // The call of a part of the line; if there is none, what is wrong is told.

@@ -4,6 +4,7 @@ ghost use Rattle.std.specs.Prelude.{◌≤◌};
 use crate::session::Session;
 use crate::typed::plain;
 use answers::files;
+use answers::files::Trouble;
 use carry::call::{Call, Kind, Place};
 use carry::writer;
 use numbers::Refusal;
@@ -115,7 +116,7 @@ pub(crate) fn heed(s: &mut Session) {
         return;
     }
     s.tape.recording = Recording::Off;
-    files::unwritable(&mut s.out);
+    files::told(&mut s.out, Trouble::Unwritable);
     s.on = false;
 }
 

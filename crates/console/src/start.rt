@@ -4,6 +4,7 @@ ghost use Rattle.std.specs.Prelude.{◌≡◌, ◌≤◌, length, IfOk, IfSome};
 use crate::carried::played;
 use crate::session::Session;
 use answers::files;
+use answers::files::Trouble;
 use carry::reader;
 use std::env::{Env, FillError};
 use std::fs::File;
@@ -20,16 +21,6 @@ const LONGEST: usize = 1048576;
 struct Named {
     record: Option<usize>,
     play: Option<usize>,
-}
-
-// Why no session begins.
-#[derive(Clone, Copy)]
-enum Stop {
-    Unknown,
-    Unreadable,
-    TooLong,
-    NoList,
-    Unwritable,
 }
 
 // Is the word at a place behind the program's name this one?
@@ -130,9 +121,9 @@ fn record_to<R: Env + Files<File = File>>(
     rt: &R,
     s: &mut Session,
     place: Option<usize>,
-) -> Result<(), Stop> {
+) -> Result<(), Trouble> {
     if let Some(place) = place {
-        let file = made_at(rt, place).ok_or(Stop::Unwritable)?;
+        let file = made_at(rt, place).ok_or(Trouble::Unwritable)?;
         s.tape.begin(file);
     }
     Ok(())
@@ -175,14 +166,14 @@ fn play_from<R: Env + Files<File = File>>(
     s: &mut Session,
     play: usize,
     record: Option<usize>,
-) -> Result<(), Stop> {
+) -> Result<(), Trouble> {
     let mut bytes = space();
-    let count = read_named(rt, play, &mut bytes).ok_or(Stop::Unreadable)?;
+    let count = read_named(rt, play, &mut bytes).ok_or(Trouble::Unreadable)?;
     if LONGEST < count {
-        return Err(Stop::TooLong);
+        return Err(Trouble::TooLong);
     }
     if reader::check(&bytes[..count]).is_err() {
-        return Err(Stop::NoList);
+        return Err(Trouble::NoList);
     }
     record_to(rt, s, record)?;
     let _ = played(s, &bytes[..count]);
@@ -190,8 +181,8 @@ fn play_from<R: Env + Files<File = File>>(
 }
 
 // Does what the words behind the program's name ask for.
-fn begun<R: Env + Files<File = File>>(rt: &R, s: &mut Session) -> Result<(), Stop> {
-    let Named { record, play } = files_named(rt).ok_or(Stop::Unknown)?;
+fn begun<R: Env + Files<File = File>>(rt: &R, s: &mut Session) -> Result<(), Trouble> {
+    let Named { record, play } = files_named(rt).ok_or(Trouble::Unknown)?;
     match play {
         Some(play) => play_from(rt, s, play, record),
         None => record_to(rt, s, record),
@@ -200,15 +191,8 @@ fn begun<R: Env + Files<File = File>>(rt: &R, s: &mut Session) -> Result<(), Sto
 
 // The session before its first line is read. If none begins, that is answered and nothing is done.
 pub(crate) fn begin<R: Env + Files<File = File>>(rt: &R, s: &mut Session) {
-    let Err(stop) = begun(rt, s) else {
-        return;
-    };
-    match stop {
-        Stop::Unknown => files::unknown(&mut s.out),
-        Stop::Unreadable => files::unreadable(&mut s.out),
-        Stop::TooLong => files::too_long(&mut s.out),
-        Stop::NoList => files::no_list(&mut s.out),
-        Stop::Unwritable => files::unwritable(&mut s.out),
+    if let Err(trouble) = begun(rt, s) {
+        files::told(&mut s.out, trouble);
+        s.on = false;
     }
-    s.on = false;
 }

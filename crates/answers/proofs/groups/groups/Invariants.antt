@@ -1,6 +1,0 @@
--- `groups::groups` meets its contract: each turn writes where the others do.
-use Rattle.std.proofs.Common.{◌≡◌}
-use Rattle.answers.proofs.groups.groups.Given as goal
-
-abbrev pub invariant-loop-end : goal.invariant-loop-end
-invariant-loop-end l = l.out.to ≡ l.initial.out.to
