@@ -1,4 +1,4 @@
-# The proved module, as text, made ready for another target. All that is changed is here; no instruction of a function is.
+# The proved module, as text, its padding written out (firmware/padding.sed), made ready for another target. All else that is changed is here; no instruction of a function is.
 # 1. Layout and triple come from the compiler's --target.
 /^target datalayout/d
 /^target triple/d

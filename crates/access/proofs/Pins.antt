@@ -4,13 +4,15 @@
 --    next_from, next_most      behind an address of the pins comes no other; the next address is at most one more
 --    renewed p                 the pins with the newest samples for their levels
 --    seen m a                  the byte that a read of the state m gives at an address of the pins
---    other_byte                any register but IRQST
+--    irqst_byte, other_byte    IRQST, and any other register
 --    no_edges                  an address that is none of GPIORIS and GPIOMIS
 --    unknown_byte, pin_byte_lem    it is that of the register there, which reading leaves as it is
 --    along_read                so are the bytes of a read
 --    pins_given                the same, of bytes that are told
 --    items_last, items_all     bytes at hand, the last of them and all
---    along_end, along_more     byte for byte: none is left; one, and then the rest
+--    items_end, items_more     bytes at hand are given: none is left; one, and then the rest
+--    along_end, along_last     byte for byte: none is left; one is
+--    along_more                one, and then the rest
 --    items_along               bytes at hand that a read gives, one after the other
 --    kept_byte, kept_given     of registers that read as they are kept
 --    edge_byte, edge_given     of GPIORIS and GPIOMIS
@@ -28,7 +30,7 @@ use mathlib.Core.Logic.{◌⊎◌, inl, inr}
 use mathlib.Core.Bool.{Bool, true, false, cond, ◌&&◌, ◌||◌}
 use mathlib.Core.List.{List, [], ◌∷◌, ◌++◌}
 use lib.Dec.{leb, eqb}
-use lib.ListN.{length, get_or}
+use lib.ListN.{length, get_or, set}
 use borrow.Author.Tests.{eq-eqb, ne_eqb, lt-leb}
 use Rattle.words.specs.Words.{table, within}
 use Rattle.words.proofs.Laws.{true_false}
@@ -46,6 +48,7 @@ use Rattle.registers.specs.Registers.{pin_reads, pin_writes, register_at, allowe
 use Rattle.registers.specs.Runs.{next, run_allowed}
 use Rattle.registers.proofs.Laws.{pin_from, keypad_below, run_no, run_yes, run_in, run_from, run_to}
 use Rattle.state.specs.declared.Module.{Module}
+use Rattle.flags.specs.Flags.{irqst}
 use Rattle.access.specs.Bytes.{byte_of, read_out}
 use Rattle.access.specs.Accesses.{read_all, bytes_read}
 use Rattle.access.specs.Pins.{pin_byte, along, items, kept_run}
@@ -86,6 +89,10 @@ abbrev pub seen : Module → ℕ → ℕ
 seen m = pin_byte m (renewed m.pins)
 
 module _ (m : Module) (p : Pins) (a : ℕ) where
+  pub irqst_byte : a ≡ 0x91 → pin_byte m p a ≡ irqst m
+  unfolding pin_byte
+  irqst_byte h = rw (eq-eqb a 0x91 h)
+
   pub other_byte : (a ≡ 0x91 → ⊥) → pin_byte m p a ≡ reads (kept_in p.kept) (flag_in p.edge) (flag_in p.level) m.size a
   unfolding pin_byte
   other_byte h = rw (ne_eqb a 0x91 h)
@@ -150,10 +157,30 @@ unfolding items table
 items_all l at zero = refl
 items_all l at (suc n) = ap (λ (x : List ℕ). x ++ (get_or l (at + n) 0 ∷ [])) (items_all l at n) ∙ sym (items_last l at n)
 
+pub items_end : (l : List ℕ) (at : ℕ) (x : List ℕ) → length x < 1 → x ≡ items l at (length x)
+unfolding items
+items_end l at [] h = refl
+items_end l at (b ∷ x) h = absurd (omega arith)
+
+items_next : (l : List ℕ) (at n : ℕ) → 1 ≤ n → get_or l at 0 ∷ items l (at + 1) (n - 1) ≡ items l at n
+unfolding items
+items_next l at zero h = absurd (omega arith)
+items_next l at (suc n) h = simp sub-one
+
+pub items_more : (l : List ℕ) (at : ℕ) (x : List ℕ) (b : ℕ) (e : List ℕ) → 1 ≤ length x → b ≡ get_or l at 0 → e ≡ items l (at + 1) (length (rest x b)) → back x b e ≡ items l at (length x)
+items_more l at x b e h eb ee =
+    back_is x b h e ∙ (λ i. eb i ∷ ee i) ∙ ap (λ (n : ℕ). get_or l at 0 ∷ items l (at + 1) n) (rest_length x b h) ∙ items_next l at (length x) h
+
 pub along_end : (f : ℕ → ℕ) (a : ℕ) (x : List ℕ) → length x < 1 → x ≡ along f a (length x)
 unfolding along
 along_end f a [] h = refl
 along_end f a (b ∷ x) h = absurd (omega arith)
+
+pub along_last : (f : ℕ → ℕ) (a : ℕ) (x : List ℕ) (b : ℕ) → 1 ≤ length x → length x < 2 → b ≡ f a → set x 0 b ≡ along f a (length x)
+unfolding along
+along_last f a [] b h l e = absurd (omega arith)
+along_last f a (y ∷ []) b h l e = ap (λ (k : ℕ). k ∷ []) e
+along_last f a (y ∷ z ∷ x) b h l e = absurd (omega arith)
 
 along_next : (f : ℕ → ℕ) (a n : ℕ) → 1 ≤ n → f a ∷ along f (next a) (n - 1) ≡ along f a n
 unfolding along

@@ -84,6 +84,9 @@ fn fill_from(m: &mut Module, first: u16, out: &mut [u8])
     }
     // kept: document 01 names this form, a byte and then the rest of the buffer, lent on; so do the three rules below
     out[0] = read_byte(m, registers::register_at(first));
+    if out.len() < 2 {
+        return;
+    }
     fill_from(m, registers::next_address(first), &mut out[1..]);
 }
 
@@ -151,6 +154,9 @@ fn fill_each(m: &Module, pins: &Pins, first: u16, out: &mut [u8])
         return;
     }
     out[0] = pin_byte(m, pins, first);
+    if out.len() < 2 {
+        return;
+    }
     fill_each(m, pins, registers::next_address(first), &mut out[1..]);
 }
 

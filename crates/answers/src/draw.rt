@@ -1,5 +1,5 @@
 // The panel drawn for a person.
-ghost use Rattle.std.specs.Prelude.{◌≡◌};
+ghost use Rattle.answers.specs.Outputs.{Kept};
 
 use crate::change::change_of;
 use crate::out::Output;
@@ -32,14 +32,14 @@ fn sign_at(m: &Module, row: Row, col: Col) -> u8 {
 
 // The mark of a key: its sign behind two blanks.
 fn mark(out: &mut Output, m: &Module, row: Row, col: Col)
-    ensures { out.new.to ≡ out.old.to }
+    ensures { Kept out.old out.new }
 {
     out.text(&[b' ', b' ', sign_at(m, row, col)]);
 }
 
 // The line above the keys, with the labels of the first columns.
 fn columns(out: &mut Output, cols: u8)
-    ensures { out.new.to ≡ out.old.to }
+    ensures { Kept out.old out.new }
 {
     let n = 5 + 3 * usize::from(cols).min(12);
     out.text(&HEAD[..n]);
@@ -48,7 +48,7 @@ fn columns(out: &mut Output, cols: u8)
 
 // The line of a row: its label, its keys, and its special function key apart.
 fn keys_of(out: &mut Output, m: &Module, row: u8)
-    ensures { out.new.to ≡ out.old.to }
+    ensures { Kept out.old out.new }
 {
     out.put(b' ');
     out.decimal(u32::from(row));
@@ -63,7 +63,7 @@ fn keys_of(out: &mut Output, m: &Module, row: u8)
 
 // The keys of the size.
 fn grid(out: &mut Output, m: &Module)
-    ensures { out.new.to ≡ out.old.to }
+    ensures { Kept out.old out.new }
 {
     columns(out, m.size % 16);
     for row in 0..m.size / 16 {
@@ -73,7 +73,7 @@ fn grid(out: &mut Output, m: &Module)
 
 // The column of a code.
 fn column(out: &mut Output, col: Col)
-    ensures { out.new.to ≡ out.old.to }
+    ensures { Kept out.old out.new }
 {
     if col.0 == SPECIAL {
         out.text(b" SF\n");
@@ -86,7 +86,7 @@ fn column(out: &mut Output, col: Col)
 
 // What a code tells.
 fn name(out: &mut Output, code: u8)
-    ensures { out.new.to ≡ out.old.to }
+    ensures { Kept out.old out.new }
 {
     let change = change_of(code);
     let told: &[u8] = if change.pressed {
@@ -102,7 +102,7 @@ fn name(out: &mut Output, code: u8)
 
 // The codes that wait, oldest first, and what they tell.
 fn codes(out: &mut Output, m: &Module)
-    ensures { out.new.to ≡ out.old.to }
+    ensures { Kept out.old out.new }
 {
     let waiting = &m.queue[..usize::from(m.count).min(PLACES)];
     out.text(b"waiting:");
@@ -115,7 +115,7 @@ fn codes(out: &mut Output, m: &Module)
 
 // A name and a flag.
 fn flag(out: &mut Output, name: &[u8], set: bool)
-    ensures { out.new.to ≡ out.old.to }
+    ensures { Kept out.old out.new }
 {
     out.text(name);
     out.decimal(u32::from(set));
@@ -123,7 +123,7 @@ fn flag(out: &mut Output, name: &[u8], set: bool)
 
 // KBDRIS with its flags.
 fn raw(out: &mut Output, m: &Module)
-    ensures { out.new.to ≡ out.old.to }
+    ensures { Kept out.old out.new }
 {
     out.hex(b"KBDRIS ", flags::ris(m));
     flag(out, b": RELINT ", m.relint);
@@ -134,7 +134,7 @@ fn raw(out: &mut Output, m: &Module)
 
 // KBDMIS, and the settings.
 fn settings(out: &mut Output, m: &Module)
-    ensures { out.new.to ≡ out.old.to }
+    ensures { Kept out.old out.new }
 {
     out.hex(b"\nKBDMIS ", flags::mis(m));
     out.hex(b"\nKBDBOUNCE ", m.bounce);
@@ -144,7 +144,7 @@ fn settings(out: &mut Output, m: &Module)
 
 // The power-on interrupt, and how the interrupt line is.
 fn level(out: &mut Output, m: &Module)
-    ensures { out.new.to ≡ out.old.to }
+    ensures { Kept out.old out.new }
 {
     let told: &[u8] = if flags::line(m) {
         b", interrupt line asserted\n"
@@ -157,7 +157,7 @@ fn level(out: &mut Output, m: &Module)
 
 // Whether the panel sleeps; while it is awake, how many quiet looks there were in a row. A full stop is the last line.
 fn sleep(out: &mut Output, m: &Module)
-    ensures { out.new.to ≡ out.old.to }
+    ensures { Kept out.old out.new }
 {
     if m.asleep {
         out.text(b"asleep\n.\n");
@@ -170,7 +170,7 @@ fn sleep(out: &mut Output, m: &Module)
 
 // The panel: keys, codes, registers, flags, pins, line and sleep; the last line is a full stop.
 pub fn show(out: &mut Output, m: &Module)
-    ensures { out.new.to ≡ out.old.to }
+    ensures { Kept out.old out.new }
 {
     grid(out, m);
     codes(out, m);

@@ -1,5 +1,5 @@
 // What is wrong with the files of a session, the one to play and the one to record to.
-ghost use Rattle.std.specs.Prelude.{◌≡◌};
+ghost use Rattle.answers.specs.Outputs.{Kept};
 
 use crate::out::Output;
 
@@ -15,7 +15,7 @@ pub enum Trouble {
 
 // What is wrong.
 pub fn told(out: &mut Output, trouble: Trouble)
-    ensures { out.new.to ≡ out.old.to }
+    ensures { Kept out.old out.new }
 {
     out.text(match trouble {
         Trouble::Unreadable => b"? the file to play can't be read\n".as_slice(),

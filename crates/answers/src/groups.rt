@@ -1,5 +1,5 @@
 // Undo groups: what stands at a place, all groups of a list of codes, and the list drawn for a person.
-ghost use Rattle.std.specs.Prelude.{◌≡◌};
+ghost use Rattle.answers.specs.Outputs.{Kept, Passed};
 
 use crate::change::{Change, change_of};
 use crate::out::Output;
@@ -13,7 +13,7 @@ const MOST: usize = 8192;
 
 // A name, and a place or how many there are.
 fn count(out: &mut Output, name: &[u8], number: usize)
-    ensures { out.new.to ≡ out.old.to }
+    ensures { Kept out.old out.new }
 {
     out.text(name);
     out.decimal(number.min(999999) as u32);
@@ -21,7 +21,7 @@ fn count(out: &mut Output, name: &[u8], number: usize)
 
 // The number of a refusal alone.
 fn refused(out: &mut Output, refusal: Refusal)
-    ensures { out.new.to ≡ out.old.to }
+    ensures { Kept out.old out.new }
 {
     out.decimal(u32::from(refusal.number()));
     out.end();
@@ -29,7 +29,7 @@ fn refused(out: &mut Output, refusal: Refusal)
 
 // A group by its places.
 fn group(out: &mut Output, first: usize, end: usize)
-    ensures { out.new.to ≡ out.old.to }
+    ensures { Kept out.old out.new }
 {
     count(out, b" group ", first);
     count(out, b" ", end);
@@ -37,7 +37,7 @@ fn group(out: &mut Output, first: usize, end: usize)
 
 // What stands at a place of a list.
 pub fn stand(out: &mut Output, trim: u8, codes: &[u8], place: usize)
-    ensures { out.new.to ≡ out.old.to }
+    ensures { Kept out.old out.new }
 {
     match undo::stands(trim, codes, place) {
         Ok(Stand::Group(first, end)) => {
@@ -56,7 +56,7 @@ pub fn stand(out: &mut Output, trim: u8, codes: &[u8], place: usize)
 
 // The codes of the group that begins at a place of a list.
 pub fn stretch(out: &mut Output, trim: u8, codes: &[u8], place: usize)
-    ensures { out.new.to ≡ out.old.to }
+    ensures { Kept out.old out.new }
 {
     match undo::stands(trim, codes, place) {
         Ok(_) => {
@@ -71,8 +71,8 @@ pub fn stretch(out: &mut Output, trim: u8, codes: &[u8], place: usize)
 // Tells of each of the groups that end at these places, by its first place and the place behind its last.
 fn each<F: Fn(&mut Output, usize, usize)>(out: &mut Output, ends: &[usize], tell: F)
     requires callable { F.IsAlwaysCallable tell }
-    requires keeps { (o : _) (first : _) (end : _) (r : _) (after : _) → F.post tell o first end r after → after.now.to ≡ o.now.to }
-    ensures { out.new.to ≡ out.old.to }
+    requires keeps { (o : _) (first : _) (end : _) (r : _) (after : _) → F.post tell o first end r after → Passed o.now after.now }
+    ensures { Passed out.old out.new }
 {
     let mut first = 0;
     for end in ends {
@@ -83,7 +83,7 @@ fn each<F: Fn(&mut Output, usize, usize)>(out: &mut Output, ends: &[usize], tell
 
 // All groups of a list, by their places.
 pub fn all(out: &mut Output, trim: u8, codes: &[u8])
-    ensures { out.new.to ≡ out.old.to }
+    ensures { Kept out.old out.new }
 {
     // kept: no heap
     let mut ends = [0; MOST];
@@ -104,7 +104,7 @@ pub fn all(out: &mut Output, trim: u8, codes: &[u8])
 
 // The key of a code: row and column.
 fn key(out: &mut Output, code: u8)
-    ensures { out.new.to ≡ out.old.to }
+    ensures { Kept out.old out.new }
 {
     let Change { row, col, .. } = change_of(code);
     out.decimal(u32::from(row.0));
@@ -118,7 +118,7 @@ fn key(out: &mut Output, code: u8)
 
 // A code behind a blank: a press or a release, and its key.
 fn change(out: &mut Output, code: u8)
-    ensures { out.new.to ≡ out.old.to }
+    ensures { Kept out.old out.new }
 {
     out.text(if change_of(code).pressed {
         b" +"
@@ -130,7 +130,7 @@ fn change(out: &mut Output, code: u8)
 
 // A place, right-aligned in four columns.
 fn aligned(out: &mut Output, place: usize)
-    ensures { out.new.to ≡ out.old.to }
+    ensures { Kept out.old out.new }
 {
     let blanks: &[u8] = match place {
         0..=9 => b"   ",
@@ -143,7 +143,7 @@ fn aligned(out: &mut Output, place: usize)
 
 // The line of a group.
 fn line(out: &mut Output, first: usize, name: &[u8], codes: &[u8])
-    ensures { out.new.to ≡ out.old.to }
+    ensures { Kept out.old out.new }
 {
     aligned(out, first);
     out.text(name);
@@ -155,7 +155,7 @@ fn line(out: &mut Output, first: usize, name: &[u8], codes: &[u8])
 
 // The line of a finished group, from its first place to the place behind its last.
 fn finished(out: &mut Output, trim: u8, codes: &[u8], first: usize, end: usize)
-    ensures { out.new.to ≡ out.old.to }
+    ensures { Passed out.old out.new }
 {
     let to = end.min(codes.len());
     if first < to {
@@ -170,7 +170,7 @@ fn finished(out: &mut Output, trim: u8, codes: &[u8], first: usize, end: usize)
 
 // The line of the group that is open at the end, if there is one.
 fn tail(out: &mut Output, codes: &[u8], first: usize)
-    ensures { out.new.to ≡ out.old.to }
+    ensures { Passed out.old out.new }
 {
     if first < codes.len() {
         line(out, first, b"  open  ", &codes[first..]);
@@ -179,7 +179,7 @@ fn tail(out: &mut Output, codes: &[u8], first: usize)
 
 // The first code that doesn't agree with those before it.
 fn disagreement(out: &mut Output, place: usize, code: u8)
-    ensures { out.new.to ≡ out.old.to }
+    ensures { Kept out.old out.new }
 {
     let told: &[u8] = if change_of(code).pressed {
         b" presses a key that is down:"
@@ -194,7 +194,7 @@ fn disagreement(out: &mut Output, place: usize, code: u8)
 
 // The first code that is no press or release of a key, or else the first that doesn't agree with those before it, if there is one.
 fn wrong_code(out: &mut Output, codes: &[u8])
-    ensures { out.new.to ≡ out.old.to }
+    ensures { Passed out.old out.new }
 {
     let bad = codes::good(codes);
     if bad < codes.len() {
@@ -211,7 +211,7 @@ fn wrong_code(out: &mut Output, codes: &[u8])
 
 // Why a list is declined.
 fn declined(out: &mut Output, trim: u8, codes: &[u8])
-    ensures { out.new.to ≡ out.old.to }
+    ensures { Passed out.old out.new }
 {
     // a list of no codes is declined for its trim key alone
     if undo::walk(trim, &[], &mut []).is_err() {
@@ -224,7 +224,7 @@ fn declined(out: &mut Output, trim: u8, codes: &[u8])
 
 // The groups of a list, a line each, below the trim key and how many codes there are.
 fn body(out: &mut Output, trim: u8, codes: &[u8], ends: &[usize], open: usize)
-    ensures { out.new.to ≡ out.old.to }
+    ensures { Kept out.old out.new }
 {
     out.text(b"trim key ");
     key(out, trim);
@@ -240,7 +240,7 @@ fn body(out: &mut Output, trim: u8, codes: &[u8], ends: &[usize], open: usize)
 
 // The groups of a list drawn, or why it is declined; of the codes since the restart there may have been more. The last line is a full stop.
 pub fn drawn(out: &mut Output, trim: u8, codes: &[u8], more: bool)
-    ensures { out.new.to ≡ out.old.to }
+    ensures { Kept out.old out.new }
 {
     // kept: no heap
     let mut ends = [0; MOST];
@@ -253,11 +253,15 @@ pub fn drawn(out: &mut Output, trim: u8, codes: &[u8], more: bool)
                 &ends[..walked.groups.min(MOST)],
                 walked.tail,
             );
-            if more {
-                out.text(b"only the first 8192 codes since the restart are kept\n");
-            }
+            out.text(if more {
+                b"only the first 8192 codes since the restart are kept\n.\n".as_slice()
+            } else {
+                b".\n"
+            });
         }
-        Err(_) => declined(out, trim, codes),
+        Err(_) => {
+            declined(out, trim, codes);
+            out.text(b".\n");
+        }
     }
-    out.text(b".\n");
 }

@@ -1,11 +1,11 @@
 // The lists of the commands and of the numbers; their last line is a full stop.
-ghost use Rattle.std.specs.Prelude.{◌≡◌};
+ghost use Rattle.answers.specs.Outputs.{Kept};
 
 use crate::out::Output;
 
 // The commands.
 pub fn commands(out: &mut Output)
-    ensures { out.new.to ≡ out.old.to }
+    ensures { Kept out.old out.new }
 {
     out.text(
         b"reset              the panel after reset; the contacts stay as they are\n\
@@ -38,7 +38,7 @@ pub fn commands(out: &mut Output)
 
 // The numbers.
 pub fn numbers(out: &mut Output)
-    ensures { out.new.to ≡ out.old.to }
+    ensures { Kept out.old out.new }
 {
     out.text(
         b"A call answers with a number: 0 if it was done. Any other declines it, and nothing is altered but as 2 and 27 tell.\n\

@@ -1,5 +1,6 @@
 // Answers written out in pieces: the page is written out when it has no room for what comes next, and when all that has arrived is answered.
-ghost use Rattle.std.specs.Prelude.{◌≡◌, ◌≤◌, ◌+◌};
+ghost use Rattle.std.specs.Prelude.{◌≡◌, ◌≤◌, ◌<◌, ◌+◌, false};
+ghost use Rattle.answers.specs.Outputs.{Kept};
 
 use std::rt::Stdout;
 use text::lines::NEWLINE;
@@ -11,13 +12,12 @@ use text::page::Page;
 pub struct Output {
     pub page: Page,
     pub to: Stdout,
-    ghost inside: { page.at ≤ 256 },
 }
 
 impl Output {
     // A page with nothing on it, and where it is to be written out.
     pub fn new(to: Stdout) -> Output
-        ensures { result.to ≡ to }
+        ensures { (result.page.at ≡ 0) × (result.to ≡ to) }
     {
         Output {
             page: page::empty(),
@@ -32,11 +32,16 @@ impl Output {
         self.page.ok
     }
 
-    // Writes out what stands on the page, and empties it.
+    // Writes out what stands on the page, and empties it. More than the page holds is dropped, and counts as not written.
     pub fn flush(&mut self)
-        ensures { (self.new.page.at ≡ 0) × (self.new.to ≡ self.old.to) }
+        ensures emptied { (self.new.page.at ≡ 0) × (self.new.to ≡ self.old.to) }
+        ensures failed { self.old.page.ok ≡ false → self.new.page.ok ≡ false }
+        ensures dropped { 256 < self.old.page.at → self.new.page.ok ≡ false }
     {
-        let sent = self.to.write_all(&self.page.bytes[..self.page.at]).is_ok();
+        let sent = match self.page.bytes.get(..self.page.at) {
+            Some(bytes) => self.to.write_all(bytes).is_ok(),
+            None => false,
+        };
         self.page.ok &= sent;
         self.page.at = 0;
     }
@@ -54,7 +59,7 @@ impl Output {
 
     // Writes a byte.
     pub fn put(&mut self, byte: u8)
-        ensures { self.new.to ≡ self.old.to }
+        ensures { Kept self.old self.new }
     {
         self.room(1);
         self.page.put(byte);
@@ -62,15 +67,16 @@ impl Output {
 
     // Ends the line.
     pub fn end(&mut self)
-        ensures { self.new.to ≡ self.old.to }
+        ensures { Kept self.old self.new }
     {
         self.put(NEWLINE);
     }
 
     // Writes a text.
     pub fn text(&mut self, words: &[u8])
-        ensures { self.new.to ≡ self.old.to }
+        ensures { Kept self.old self.new }
     {
+        self.room(0);
         for part in words.chunks(256) {
             self.room(part.len());
             self.page.text(part);
@@ -79,8 +85,9 @@ impl Output {
 
     // Writes bytes, each behind a blank.
     pub fn listed(&mut self, bytes: &[u8])
-        ensures { self.new.to ≡ self.old.to }
+        ensures { Kept self.old self.new }
     {
+        self.room(0);
         for part in bytes.chunks(85) {
             self.room(part.len() * 3);
             self.page.listed(part);
@@ -89,8 +96,9 @@ impl Output {
 
     // Writes samples in base 16, each behind a blank.
     pub fn samples(&mut self, samples: &[u16])
-        ensures { self.new.to ≡ self.old.to }
+        ensures { Kept self.old self.new }
     {
+        self.room(0);
         for sample in samples {
             self.put(b' ');
             self.room(4);
@@ -100,7 +108,7 @@ impl Output {
 
     // Writes a name, and a byte in base 16.
     pub fn hex(&mut self, name: &[u8], byte: u8)
-        ensures { self.new.to ≡ self.old.to }
+        ensures { Kept self.old self.new }
     {
         self.text(name);
         self.room(2);
@@ -109,7 +117,7 @@ impl Output {
 
     // Writes a number in base 10.
     pub fn decimal(&mut self, number: u32)
-        ensures { self.new.to ≡ self.old.to }
+        ensures { Kept self.old self.new }
     {
         self.room(10);
         self.page.decimal(number);

@@ -1,5 +1,5 @@
 // The lines that tell what is wrong: the word, and what was wanted of it.
-ghost use Rattle.std.specs.Prelude.{◌≡◌};
+ghost use Rattle.answers.specs.Outputs.{Kept, Passed};
 
 use crate::out::Output;
 use text::number::Fault;
@@ -43,7 +43,7 @@ fn shown(byte: u8) -> u8 {
 
 // A word as it is shown, its first bytes.
 fn quoted(out: &mut Output, word: &[u8])
-    ensures { out.new.to ≡ out.old.to }
+    ensures { Passed out.old out.new }
 {
     for byte in &word[..word.len().min(SHOWN)] {
         out.put(shown(*byte));
@@ -108,7 +108,7 @@ fn range_wanted(kind: Kind) -> &'static [u8] {
 
 // The wrong word of a line, between what it is not and what was wanted.
 fn word_told(out: &mut Output, line: &[u8], wrong: Wrong, not: &[u8], wanted: &[u8])
-    ensures { out.new.to ≡ out.old.to }
+    ensures { Kept out.old out.new }
 {
     let end = wrong.word.end.min(line.len());
     let start = wrong.word.start.min(end);
@@ -119,7 +119,7 @@ fn word_told(out: &mut Output, line: &[u8], wrong: Wrong, not: &[u8], wanted: &[
 
 // A number of words that the command doesn't take, and the command's form.
 fn words_told(out: &mut Output, not: &[u8], form: &[u8])
-    ensures { out.new.to ≡ out.old.to }
+    ensures { Kept out.old out.new }
 {
     out.text(not);
     out.text(b" (");
@@ -129,7 +129,7 @@ fn words_told(out: &mut Output, not: &[u8], form: &[u8])
 
 // What is wrong with a line whose command has this form.
 pub fn refusal(out: &mut Output, line: &[u8], wrong: Wrong, form: &[u8])
-    ensures { out.new.to ≡ out.old.to }
+    ensures { Kept out.old out.new }
 {
     let kind = wrong.kind;
     match wrong.fault {
@@ -143,7 +143,7 @@ pub fn refusal(out: &mut Output, line: &[u8], wrong: Wrong, form: &[u8])
 
 // A line whose first word is no command.
 pub fn unknown(out: &mut Output, word: &[u8])
-    ensures { out.new.to ≡ out.old.to }
+    ensures { Kept out.old out.new }
 {
     out.text(b"? unknown command: ");
     quoted(out, word);
@@ -152,7 +152,7 @@ pub fn unknown(out: &mut Output, word: &[u8])
 
 // A part of a line, between semicolons, whose first word names no call.
 fn unknown_call(out: &mut Output, line: &[u8], wrong: Wrong)
-    ensures { out.new.to ≡ out.old.to }
+    ensures { Kept out.old out.new }
 {
     word_told(
         out,
@@ -165,7 +165,7 @@ fn unknown_call(out: &mut Output, line: &[u8], wrong: Wrong)
 
 // What is wrong with a call of a list, the form of which is this.
 pub fn refusal_of_call(out: &mut Output, line: &[u8], wrong: Wrong, form: &[u8])
-    ensures { out.new.to ≡ out.old.to }
+    ensures { Kept out.old out.new }
 {
     match wrong.fault {
         Fault::Unknown => unknown_call(out, line, wrong),
@@ -176,7 +176,7 @@ pub fn refusal_of_call(out: &mut Output, line: &[u8], wrong: Wrong, form: &[u8])
 
 // A line that is too long.
 pub fn too_long(out: &mut Output)
-    ensures { out.new.to ≡ out.old.to }
+    ensures { Kept out.old out.new }
 {
     out.text(b"? line too long (16384 bytes at most)\n");
 }

@@ -1,5 +1,6 @@
 // The spare pins: the levels that they are driven to, and the pins drawn for a person.
-ghost use Rattle.std.specs.Prelude.{◌≡◌, ◌<◌};
+ghost use Rattle.std.specs.Prelude.{◌<◌};
+ghost use Rattle.answers.specs.Outputs.{Kept};
 
 use crate::out::Output;
 use keys::ROWS;
@@ -24,7 +25,7 @@ fn level(driven: u32, high: u32, pin: u8) -> u8
 
 // The levels that the pins are driven to, from pin 0 on, as a word behind a blank.
 pub fn levels(out: &mut Output, driven: u32, high: u32)
-    ensures { out.new.to ≡ out.old.to }
+    ensures { Kept out.old out.new }
 {
     out.put(b' ');
     for pin in 0..PINS as u8 {
@@ -34,23 +35,27 @@ pub fn levels(out: &mut Output, driven: u32, high: u32)
 
 // The mark of a pin that the keypad uses: those of its rows come first, those of its columns behind.
 fn keypad(out: &mut Output, pin: u8)
-    ensures { out.new.to ≡ out.old.to }
+    ensures { Kept out.old out.new }
 {
     out.text(if pin < ROWS { b"  r" } else { b"  c" });
 }
 
 // The mark of an input: its newest sample; a question mark before the first.
 fn input(out: &mut Output, sampled: bool, high: bool)
-    ensures { out.new.to ≡ out.old.to }
+    ensures { Kept out.old out.new }
 {
-    out.text(b" <");
-    out.put(if sampled { digit(high) } else { b'?' });
+    if sampled {
+        out.text(b" <");
+        out.put(digit(high));
+    } else {
+        out.text(b" <?");
+    }
 }
 
 // The mark of a pin: of the keypad, an output or an input.
 fn part(out: &mut Output, m: &Module, driven: u32, high: u32, pin: u8)
     requires { pin < 19 }
-    ensures { out.new.to ≡ out.old.to }
+    ensures { Kept out.old out.new }
 {
     if pins::is_used(m.size, pin) {
         keypad(out, pin);
@@ -64,7 +69,7 @@ fn part(out: &mut Output, m: &Module, driven: u32, high: u32, pin: u8)
 
 // The line of what each pin is.
 fn parts(out: &mut Output, m: &Module)
-    ensures { out.new.to ≡ out.old.to }
+    ensures { Kept out.old out.new }
 {
     let driven = m.pins.word(What::Driven, m.size);
     let high = m.pins.word(What::High, m.size);
@@ -76,14 +81,14 @@ fn parts(out: &mut Output, m: &Module)
 
 // The mark of what is so or isn't.
 fn flag(out: &mut Output, set: bool)
-    ensures { out.new.to ≡ out.old.to }
+    ensures { Kept out.old out.new }
 {
     out.text(if set { b"  #" } else { b"  ." });
 }
 
 // The line of the edges that are pending.
 fn edges(out: &mut Output, edge: &[bool; PINS])
-    ensures { out.new.to ≡ out.old.to }
+    ensures { Kept out.old out.new }
 {
     out.text(b"\nedge ");
     for pending in edge {
@@ -93,7 +98,7 @@ fn edges(out: &mut Output, edge: &[bool; PINS])
 
 // The line of the edges that are enabled.
 fn enabled(out: &mut Output, m: &Module)
-    ensures { out.new.to ≡ out.old.to }
+    ensures { Kept out.old out.new }
 {
     out.text(b"\nIE   ");
     for pin in 0..PINS as u8 {
@@ -103,7 +108,7 @@ fn enabled(out: &mut Output, m: &Module)
 
 // The pins: what each is, with its level or its newest sample; which edges are pending, and which are enabled.
 pub fn drawn(out: &mut Output, m: &Module)
-    ensures { out.new.to ≡ out.old.to }
+    ensures { Kept out.old out.new }
 {
     out.text(b"\npin    0  1  2  3  4  5  6  7  8  9 10 11 12 13 14 15 16 17 18");
     parts(out, m);

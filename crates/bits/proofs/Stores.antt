@@ -1,11 +1,13 @@
 -- Laws of stores: numbers stored one by one, and bits laid byte by byte.
 --
+--    place_low, place_next          the place of a number behind others: it is low, and the number has room there
 --    found_next                     one number more in a table
 --    laid_again, put_next           bits laid where none were laid, and one number more laid
 --    laid_stores                    bits laid by stores, from their first byte on
 --    put_one, put_two, put_three    the stores of the first one, two or three bytes of 24 bits
 -- Assumes nothing.
 use Prim.Native.Nat.{ℕ, suc, ◌+◌, ◌*◌, ◌-◌, ◌/◌, ◌%◌, ◌≤◌, ◌<◌}
+use native.Mathlib.Nat.{suc-mul, mul-le-mul, mul-le-mul_right}
 use native.Mathlib.Numerals.{add-one, add-two}
 use native.Mathlib.Omega.{arith}
 use mathlib.Core.Path.{◌≡◌, sym, ap, ◌∙◌}
@@ -18,6 +20,18 @@ use Rattle.bits.specs.Bits.{below, bits_of, spelled, number, numbers, bytes_for,
 use Rattle.bits.proofs.Laws.{bits_length, numbers_length, spelled_length}
 use Rattle.bits.proofs.Laid.{spelled_append, numbers_more, laid_next, laid_part}
 use Rattle.bits.proofs.Windows.{high_byte, middle_byte, low_byte}
+
+pub place_low : (p i n w : ℕ) → p ≤ 500 → i < n → n ≤ 32 → w ≤ 13 → p + i * w ≤ 903
+place_low p i n w h k l m =
+    let a : i ≤ 31 = omega arith in
+    let e : i * w ≤ 31 * 13 = mul-le-mul a m in
+    omega arith
+
+pub place_next : (p i n w most : ℕ) → i < n → p + n * w ≤ most → p + i * w + w ≤ most
+place_next p i n w most h k =
+    let e : suc i * w ≤ n * w = mul-le-mul_right w h in
+    let s = suc-mul i w in
+    omega arith
 
 pub found_next : (found : List ℕ) (i w size v : ℕ) (bits : List Bool) → found ≡ numbers i w bits ++ replicate (size - i) 0 → i < size
     → v ≡ number w (drop (i * w) bits) → set found i v ≡ numbers (i + 1) w bits ++ replicate (size - (i + 1)) 0

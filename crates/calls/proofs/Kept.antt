@@ -1,6 +1,7 @@
 -- A LOOK LEAVES A SOUND MODULE SOUND, so a block judges soundness once.
 --
 --    Judged m                    the module m is sound, and what the struct's types say of it
+--    apart m, bare               a sound module without its mask, PORIRQ and pins is sound
 --    still                       keys out of the size are still, as a look asks
 --    Held size q                 what soundness asks of the queue q, whose keys are in the size
 --    put_held, put_all_held       codes of keys in the size are put into such a queue
@@ -28,7 +29,7 @@ use Rattle.keys.proofs.Laws.{rows_most, code_key}
 use Rattle.contact.specs.declared.Contact.{Contact}
 use Rattle.contact.proofs.Laws.{step_low}
 use Rattle.state.specs.declared.Module.{Module}
-use Rattle.state.specs.Module.{Queue, queue, queue_of, sleep_of, with_queue, forgotten}
+use Rattle.state.specs.Module.{Queue, queue, settings, flags, keys_of, queue_of, sleep_of, made, with_queue, forgotten}
 use Rattle.state.specs.Queue.{waiting, put, put_all}
 use Rattle.state.proofs.Laws.{put_room, put_full}
 use Rattle.state.proofs.Counted.{counted_least, counted_sleeps}
@@ -36,6 +37,7 @@ use Rattle.picture.specs.Picture.{all_read}
 use Rattle.sound.specs.Sound.{key_sound, codes_sound, rest_unused, sound}
 use Rattle.sound.proofs.Laws.{sound_facts, facts_sound, sound_out}
 use Rattle.sound.proofs.Exactly.{run_said, said_key}
+use Rattle.pins.specs.Pins.{fresh}
 use Rattle.scan.specs.Scan.{sight, contact_at, changes_below, changes, calm, contacts, noticed, looked}
 use Rattle.scan.specs.Walk.{Still}
 use Rattle.scan.proofs.Laws.{out_rests, looked_noticed}
@@ -87,6 +89,14 @@ unfolding put_all
 put_all_held size [] q e h = h
 put_all_held size (c ∷ cs) q e h =
     put_all_held size cs (put q c) (all_rest (code_in size) c cs e) (put_held size q.places q.count q.relint c h (all_first (code_in size) c cs e))
+
+abbrev pub apart : Module → Module
+apart m = made (keys_of m) (queue_of m) (settings m.bounce m.size 0) (flags m.rsint m.rklint false m.seen) fresh (sleep_of m)
+
+pub bare : (m : Module) → sound m ≡ true → sound (apart m) ≡ true
+bare m ok =
+    let f = sound_facts m ok in
+    facts_sound (apart m) (record { size = f.size; keys = f.keys; few = f.few; codes = f.codes; rest = f.rest; mask = omega arith; marks = f.marks; counted = f.counted; asleep = f.asleep })
 
 pub still : (m : Module) → sound m ≡ true → Still m.size m.held m.run
 still m ok = record { rows = rows_most m.size (sound_facts m ok).size; keys = sound_out m ok }

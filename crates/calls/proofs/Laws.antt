@@ -1,14 +1,16 @@
 -- What a call tells and leaves, as its returns meet it.
 --
---    sound_then                       the first line of every call but reset is passed; unsound_access: it isn't, of an access
+--    unsound_first, sound_then        the first line of every call but reset: it isn't passed, or it is; unsound_access: it isn't, of an access
 --    asleep_first, awake_then         the second line of every access
 --    state_err, state_ok              a call is declined by its first line, by what was told of that; else its own lines decide
 --    state_sound                      the state is sound then
 --    access_err, access_ok            an access is declined by its first two
 --    slept_unsound, slept_woken, slept_awake    what these do to the module
 --    still_awake                      they leave it as it is, if they don't decline
+--    woke n                           the state that a call hands back is awake
 --    read_awake, write_awake          an access's own lines don't give 27
 --    outcome_done, outcome_declined   a call that is done, and one that is declined
+--    accessed_done, accessed_asleep, accessed_declined    an access that is done, one of a panel that sleeps, and one that is declined otherwise
 --    answer_done, answer_declined     the same of a question
 --    drive_done, drive_declined       the question what is driven
 --    access_slept, access_declined, access_done    an access that is declined by its first two lines, or by its own, and one that is done
@@ -34,10 +36,14 @@ use Rattle.state.specs.declared.Module.{Module}
 use Rattle.state.specs.Module.{woken}
 use Rattle.sound.specs.Sound.{sound}
 use Rattle.access.specs.Accesses.{bytes_read}
+use Rattle.calls.specs.declared.Done.{Done}
 use Rattle.calls.specs.Lent.{Lent, Asked, Told}
 use Rattle.calls.specs.Calls.{access_number, read_number, interrupt_number, outcome, accessed, answer, read_buffer, drive_of}
 
 module _ (m : Module) (l : List Line) where
+  pub unsound_first : sound m ≡ false → number_of (not (sound m) gives unsound ∷ l) ≡ unsound
+  unsound_first e = line_yes (not (sound m)) unsound l (ap not e)
+
   pub sound_then : sound m ≡ true → number_of (not (sound m) gives unsound ∷ l) ≡ number_of l
   sound_then e = line_no (not (sound m)) unsound l (ap not e)
 
@@ -95,6 +101,9 @@ module _ (m : Module) where
   pub still_awake : (y : Module) → done ≡ access_number m [] → y ≡ slept m (access_number m []) → y ≡ m
   still_awake y z e = rw (sym z) at e
 
+pub woke : (n : ℕ) {x y : Module} → x ≡ y → ◌≡◌ {A = Done} (record { after = x; number = n }) (record { after = y; number = n })
+woke n e = ap (λ (m : Module). record { after = m; number = n }) e
+
 module _ (a : ℕ) where
   pub read_awake : (n k : ℕ) → k ≡ number_of (read_lines a n) → k ≡ sleeping → ⊥
   unfolding read_lines access_lines lacks
@@ -112,6 +121,18 @@ module _ (m : Module) (n : ℕ) where
   pub outcome_declined : (x : Module) (r : Refusal) → number r ≡ n → Lent (outcome m x n) (Err r) m
   unfolding outcome
   outcome_declined x r e = (e, rw (ne_eqb n 0 (λ z. refused r (e ∙ z))) refl)
+
+  pub accessed_done : (x y : Module) → y ≡ x → n ≡ 0 → ◌≡◌ {A = Done} (record { after = woken y; number = 0 }) (accessed m x n)
+  unfolding accessed
+  accessed_done x y e z = rw (e, z) refl
+
+  pub accessed_asleep : (x : Module) → n ≡ sleeping → ◌≡◌ {A = Done} (record { after = woken m; number = sleeping }) (accessed m x n)
+  unfolding accessed
+  accessed_asleep x z = rw z refl
+
+  pub accessed_declined : (k : ℕ) (x : Module) → n ≡ k → (k ≡ 0 → ⊥) → (k ≡ sleeping → ⊥) → ◌≡◌ {A = Done} (record { after = m; number = k }) (accessed m x n)
+  unfolding accessed
+  accessed_declined k x e h z = rw (e, ne_eqb k 0 h, ne_eqb k sleeping z) refl
 
   pub answer_done : (x y : Bool) → y ≡ x → done ≡ n → Asked (answer m x n) (Ok y) m
   unfolding answer

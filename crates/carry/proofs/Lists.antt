@@ -11,8 +11,9 @@
 --    begun ws i                         the first i calls of a list of numbers
 --    begun_none, begun_next, begun_all  none of them, one more, all
 --    begun_rest                         a list begins with its first calls
+--    call_within                        a call of the list has its 35 numbers in it
 -- Assumes nothing.
-use Prim.Native.Nat.{ℕ, zero, suc, ◌+◌, ◌-◌, ◌*◌, ◌/◌, ◌%◌, ◌≤◌}
+use Prim.Native.Nat.{ℕ, zero, suc, ◌+◌, ◌-◌, ◌*◌, ◌/◌, ◌%◌, ◌≤◌, ◌<◌}
 use native.Mathlib.Numerals.{add-one}
 use native.Mathlib.Omega.{arith}
 use mathlib.Core.Path.{◌≡◌, refl, sym, ap, ◌∙◌}
@@ -135,3 +136,6 @@ module _ (ws : List ℕ) where
       let n = length ws / 35 in
       let e : n ≡ i + (n - i) = omega arith in
       (table (λ j. f (i + j)) (n - i), ap (table f) e ∙ table_more f i (n - i))
+
+  pub call_within : (i : ℕ) → i < length ws / 35 → i * 35 + 35 ≤ length ws
+  call_within i h = omega arith

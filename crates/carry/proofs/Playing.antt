@@ -1,5 +1,7 @@
 -- Laws of the player.
 --
+--    lowered values i                        the first i of 32 numbers as bytes, then 0
+--    lowered_none, lowered_next, lowered_all none of them; one more; all
 --    look_count, write_count, read_count     a call that fits has at most 32 samples or bytes
 --    step_look, step_write, ..               the step of each kind, as the call gives it
 --    carried_told, told_fits                 the numbers of what is told tell it, and fit
@@ -10,7 +12,7 @@
 --    play_done, play_declined                what the player hands back, by the check's number
 --    played, not_played                      the state that the calls of a list give, one after the other; 20 for what is no list
 -- Assumes nothing.
-use Prim.Native.Nat.{ℕ, zero, suc, ◌+◌, ◌-◌, ◌%◌, ◌≤◌}
+use Prim.Native.Nat.{ℕ, zero, suc, ◌+◌, ◌-◌, ◌%◌, ◌≤◌, ◌<◌}
 use native.Mathlib.Nat.{sub-zero}
 use native.Mathlib.Omega.{arith}
 use mathlib.Core.Path.{◌≡◌, refl, sym, ap, ◌∙◌}
@@ -19,11 +21,12 @@ use mathlib.Core.List.{List, [], ◌∷◌, map}
 use mathlib.Core.Option.{Option, none, some}
 use borrow.Author.Tests.{leb-true, eqb-true}
 use lib.Dec.{eqb, leb}
-use lib.ListN.{length, take, replicate}
+use lib.ListN.{length, take, get_or, set, replicate, get_or-map}
 use lib.Seq.{length-take-le}
 use Rattle.words.specs.Words.{all}
 use Rattle.words.proofs.Laws.{true_false, and_left, and_right}
 use Rattle.words.proofs.Lists.{by_test}
+use Rattle.words.proofs.Tables.{by_table, replaced, replaced_none, replaced_all, replaced_next}
 use Rattle.numbers.specs.Refusals.{number}
 use Rattle.numbers.specs.declared.Refusal.{Refusal}
 use Rattle.numbers.proofs.Laws.{refused}
@@ -48,6 +51,25 @@ use Rattle.carry.proofs.Reading.{list_cut, check_cut, check_list, check_exactly,
 pub map_length : (f : ℕ → ℕ) (xs : List ℕ) → length (map f xs) ≡ length xs
 map_length f [] = refl
 map_length f (x ∷ xs) = ap suc (map_length f xs)
+
+-- the first i of 32 numbers as bytes, then 0
+unfoldable pub lowered : List ℕ → ℕ → List ℕ
+lowered values i = replaced (λ k. low (get_or values k 0)) i (replicate 32 0)
+
+module _ (values : List ℕ) where
+  pub lowered_none : replicate 32 0 ≡ lowered values 0
+  unfolding lowered
+  lowered_none = sym (replaced_none (λ k. low (get_or values k 0)) (replicate 32 0))
+
+  pub lowered_next : {out : List ℕ} {i : ℕ} → i < 32 → out ≡ lowered values i → set out i (get_or values i 0 % 256) ≡ lowered values (i + 1)
+  unfolding lowered low
+  lowered_next {i = i} h e = rw e (replaced_next (λ k. low (get_or values k 0)) (replicate 32 0) i h)
+
+  pub lowered_all : length values ≡ 32 → lowered values 32 ≡ map low values
+  unfolding lowered low
+  lowered_all n =
+      let f : ℕ → ℕ = λ k. low (get_or values k 0) in
+      replaced_all f (replicate 32 0) 32 refl ∙ by_table 0 f 32 (map low values) (map_length low values ∙ n) (λ k h. sym (get_or-map low values k 0))
 
 map_take : (f : ℕ → ℕ) (n : ℕ) (xs : List ℕ) → map f (take n xs) ≡ take n (map f xs)
 map_take f zero xs = refl

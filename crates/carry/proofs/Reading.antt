@@ -10,10 +10,12 @@
 --    kind_low                        a record's kind is one of four
 --    Boundary bytes place            a place between records
 --    bytes_from bytes byte            the bytes from one on
---    at_here                         the bits of the bytes from one on
+--    bits_here, at_here              the bits of the bytes from one on, by byte and bit, and by their place
 --    next_in                         the place behind a record is in the list
 --    boundary_front, boundary_next, boundary_less  the front is a boundary; so is the place behind a record, and nearer to the end
 --    check_end, check_short          the number, told at a boundary: at the end, or at a record that is cut short
+--    place_in, place_beyond          a place in the list, and one beyond its last bit
+--    record_high, record_beyond      no place in a byte, and a place beyond the list's last bit
 --    record_out, record_end, record_short, record_call     what is found at a place
 --    walked                          a list that can be read is walked from the front: its calls, then its end
 -- Assumes nothing.
@@ -25,7 +27,7 @@ use mathlib.Core.Logic.{◌↔◌, ◌⊎◌, inl, inr}
 use mathlib.Core.Bool.{Bool, true, false, not, cond, ◌&&◌}
 use mathlib.Core.List.{List, [], ◌∷◌, ◌++◌}
 use mathlib.Core.Option.{Option, none, some, some-injective}
-use borrow.Author.Tests.{lt-ltb, le-ltb, le-leb, lt-leb, ltb-true, leb-true, leb-false, ne_eqb}
+use borrow.Author.Tests.{lt-ltb, le-ltb, le-leb, lt-leb, ltb-true, leb-true, leb-false, ne_eqb, not-true, not-false}
 use borrow.Author.Rules.{part_to_end}
 use lib.Dec.{eqb, leb, ltb}
 use lib.ListN.{length, take, drop, get_or, replicate}
@@ -224,7 +226,7 @@ abbrev pub bytes_from : List ℕ → ℕ → List ℕ
 bytes_from bytes byte = take (length bytes - byte) (drop byte bytes)
 
 -- what is told of the bytes from one on
-bits_here : (bytes : List ℕ) (byte bit : ℕ) → bits_from (bytes_from bytes byte) bit ≡ bits_from bytes (byte * 8 + bit)
+pub bits_here : (bytes : List ℕ) (byte bit : ℕ) → bits_from (bytes_from bytes byte) bit ≡ bits_from bytes (byte * 8 + bit)
 bits_here bytes byte bit = ap (λ (l : List ℕ). bits_from l bit) (part_to_end bytes byte) ∙ from_part bytes byte bit
 
 pub at_here : (bytes : List ℕ) (place : Place) {bit : ℕ} → bit ≡ place.bit → bits_from (bytes_from bytes place.byte) bit ≡ bits_from bytes (bits_to place)
@@ -277,11 +279,18 @@ module _ {bytes : List ℕ} {place : Place} (at : Boundary bytes place) where
 
 -- what is at a place
 module _ (bytes : List ℕ) (byte bit : ℕ) where
-  record_high : 7 < bit → no_call 20 false ≡ record_at bytes byte bit
+  -- by a test of room for no bits
+  pub place_in : {r : Bool} → byte ≤ length bytes → r ≡ leb (bit + 0) ((length bytes - byte) * 8) → not r ≡ false → byte * 8 + bit ≤ length bytes * 8
+  place_in {r} h e f = let l = leb-true (bit + 0) ((length bytes - byte) * 8) (sym e ∙ not-false r f) in omega arith
+
+  pub place_beyond : {r : Bool} → byte ≤ length bytes → r ≡ leb (bit + 0) ((length bytes - byte) * 8) → not r ≡ true → length bytes * 8 < byte * 8 + bit
+  place_beyond {r} h e f = let l = leb-false (bit + 0) ((length bytes - byte) * 8) (sym e ∙ not-true r f) in omega arith
+
+  pub record_high : 7 < bit → no_call 20 false ≡ record_at bytes byte bit
   unfolding record_at record_of
   record_high h = rw (lt-ltb 7 bit h)
 
-  record_beyond : length bytes * 8 < byte * 8 + bit → no_call 20 false ≡ record_at bytes byte bit
+  pub record_beyond : length bytes * 8 < byte * 8 + bit → no_call 20 false ≡ record_at bytes byte bit
   unfolding record_at record_of found_at
   record_beyond h =
       rw (lt-ltb (length bytes * 8) (byte * 8 + bit) h)

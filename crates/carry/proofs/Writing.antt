@@ -11,7 +11,8 @@
 --    back_laid                      bits laid into the part of a buffer from a byte on, and the part given back
 --    packing_length, place_bytes    how many bytes a packed list has; how many a place takes
 --    pack_declined, pack_no_room, pack_done               what `pack` gives
---    Adds, add_declined, add_no_room, add_done            what `add` gives
+--    test_no, test_yes                                    a test of room
+--    Adds, add_declined, add_no_place, add_no_room, add_done    what `add` gives
 --    packed_one, added_one          what is handed back tells how it went
 --    added, added_place             calls that are added one by one are the packed list
 -- Assumes nothing.
@@ -19,11 +20,11 @@ use Prim.Native.Nat.{ℕ, ◌+◌, ◌-◌, ◌*◌, ◌/◌, ◌%◌, ◌≤◌
 use native.Mathlib.Decide.{ℕ_discrete}
 use native.Mathlib.Omega.{arith}
 use mathlib.Core.Path.{◌≡◌, refl, sym, ap, ◌∙◌}
-use mathlib.Core.Bool.{Bool, true, false, ◌||◌}
+use mathlib.Core.Bool.{Bool, true, false, not, ◌||◌}
 use mathlib.Core.List.{List, [], ◌∷◌, ◌++◌, append_assoc, append-nil}
-use borrow.Author.Tests.{lt-ltb, le-ltb, ltb-false, ne_eqb}
+use borrow.Author.Tests.{lt-ltb, le-ltb, ltb-false, leb-true, leb-false, ne_eqb, not-true, not-false}
 use borrow.Rule.Slice.PartMut.{put_mid, mid_of}
-use lib.Dec.{ltb}
+use lib.Dec.{leb, ltb}
 use lib.ListN.{length, take, drop, length-append, length-drop, drop_of_length-le}
 use Rattle.words.specs.Words.{all}
 use Rattle.words.proofs.Laws.{true_false}
@@ -204,6 +205,13 @@ module _ (ws out : List ℕ) where
 
 -- ---- what one call more gives
 
+-- a test of room that is false, and one that is true
+pub test_no : (t : Bool) (a b : ℕ) → t ≡ leb a b → not t ≡ true → b < a
+test_no t a b e f = leb-false a b (sym e ∙ not-true t f)
+
+pub test_yes : (t : Bool) (a b : ℕ) → t ≡ leb a b → not t ≡ false → a ≤ b
+test_yes t a b e f = leb-true a b (sym e ∙ not-false t f)
+
 full_line : (b : Bool) → declining (b gives no_room ∷ []) ≡ true
 unfolding declining
 full_line b = refl
@@ -263,6 +271,11 @@ module _ (c : Call) (out : List ℕ) (place : Place) where
   is_added e =
       let all-decline = declining_both (own_lines (carried c)) (full gives no_room ∷ []) (own_declines (carried c)) (full_line full) in
       line_false (own_lines (carried c)) full no_room [] all-decline e
+
+module _ (c : Call) (out : List ℕ) (byte bit : ℕ) (d : number_of (own_lines (carried c)) ≡ done) where
+  pub add_no_place : (a : Added) → 7 < bit → a ≡ record { byte = byte; bit = bit; number = no_room }
+      → (a ≡ add_call c (length out) byte bit) × (out ≡ add_buffer c out byte bit)
+  add_no_place a h f = let r = add_no_room c out (record { byte = byte; bit = bit }) d (λ k. let low = k.0 in omega arith) in (f ∙ r.0, r.1)
 
 or_right : (a b : Bool) → (a || b) ≡ false → b ≡ false
 or_right true b e = true_false e

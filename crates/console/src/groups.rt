@@ -6,7 +6,7 @@ use crate::session::{NUMBERS, Session};
 use answers::groups;
 use answers::refusal::{Kind, Wrong};
 use text::list::as_bytes;
-use text::word::{is_end, word_from};
+use text::word::{is_end, is_same, word_from};
 
 // What is asked of a list of codes: by which trim key's code, and at which place.
 #[derive(Clone, Copy)]
@@ -91,7 +91,7 @@ fn undo_list(s: &mut Session, rest: &[u8], from: usize, trim: u8) -> Result<(), 
     requires { from ≤ length rest.now }
 {
     let w = word_from(rest, from);
-    if !matches!(&rest[w.start..w.end], b":") {
+    if !is_same(&rest[w.start..w.end], b":") {
         return Err(too_many());
     }
     // kept: no heap

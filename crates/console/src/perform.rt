@@ -1,5 +1,7 @@
 // The commands, done and answered.
-ghost use Rattle.std.specs.Prelude.{◌≤◌, length};
+ghost use Rattle.std.specs.Prelude.{◌≡◌, ◌≤◌, length, true, IfSome};
+ghost use Rattle.text.specs.Line.{same};
+ghost use Rattle.console.specs.Names.{name};
 
 use crate::commands::{key_of, no_more, too_many};
 use crate::made::{BYTES, make, size};
@@ -14,7 +16,7 @@ use calls::lent;
 use carry::call;
 use carry::call::Call;
 use text::lines::without_return;
-use text::word::word_from;
+use text::word::{is_same, word_from};
 
 // The bytes of the longest line.
 pub(crate) const LONGEST: usize = 16384;
@@ -97,7 +99,7 @@ fn helped(s: &mut Session, rest: &[u8]) -> Result<(), Wrong> {
         return Ok(());
     }
     no_more(&rest[w.end..])?;
-    if !matches!(&rest[w.start..w.end], b"numbers") {
+    if !is_same(&rest[w.start..w.end], b"numbers") {
         return Err(too_many());
     }
     help::numbers(&mut s.out);
@@ -112,26 +114,29 @@ fn quit(s: &mut Session, rest: &[u8]) -> Result<(), Wrong> {
 }
 
 // The command that a word names.
-fn command_of(word: &[u8]) -> Option<Command> {
+#[tactic(auto, unfolding(crate::specs::Names::name))]
+fn command_of(word: &[u8]) -> Option<Command>
+    ensures { IfSome result (λ command. same word.now (name command) ≡ true) }
+{
     Some(match word {
-        b"looks" => Command::Looks,
-        b"pack" => Command::Pack,
-        b"unpack" => Command::Unpack,
-        b"play" => Command::Play,
-        b"group" => Command::Group,
-        b"groups" => Command::Groups,
-        b"fetch" => Command::Fetch,
-        b"undo" => Command::Undo,
-        b"press" => Command::Press,
-        b"release" => Command::Release,
-        b"wait" => Command::Wait,
-        b"held" => Command::Held,
-        b"irq" => Command::Irq,
-        b"pins" => Command::Pins,
-        b"drive" => Command::Drive,
-        b"show" => Command::Show,
-        b"help" => Command::Help,
-        b"quit" => Command::Quit,
+        _ if is_same(word, b"looks") => Command::Looks,
+        _ if is_same(word, b"pack") => Command::Pack,
+        _ if is_same(word, b"unpack") => Command::Unpack,
+        _ if is_same(word, b"play") => Command::Play,
+        _ if is_same(word, b"group") => Command::Group,
+        _ if is_same(word, b"groups") => Command::Groups,
+        _ if is_same(word, b"fetch") => Command::Fetch,
+        _ if is_same(word, b"undo") => Command::Undo,
+        _ if is_same(word, b"press") => Command::Press,
+        _ if is_same(word, b"release") => Command::Release,
+        _ if is_same(word, b"wait") => Command::Wait,
+        _ if is_same(word, b"held") => Command::Held,
+        _ if is_same(word, b"irq") => Command::Irq,
+        _ if is_same(word, b"pins") => Command::Pins,
+        _ if is_same(word, b"drive") => Command::Drive,
+        _ if is_same(word, b"show") => Command::Show,
+        _ if is_same(word, b"help") => Command::Help,
+        _ if is_same(word, b"quit") => Command::Quit,
         _ => Command::Call(kind_of(word)?),
     })
 }

@@ -12,6 +12,7 @@ use std::io;
 use std::io::Read;
 use std::rt::Files;
 use std::str::from_utf8;
+use text::word::is_same;
 
 // The bytes of the longest file that is played.
 const LONGEST: usize = 1048576;
@@ -28,7 +29,7 @@ fn is_word(rt: &impl Env, place: usize, name: &[u8]) -> bool {
     // kept: no heap
     let mut word = [0; 16];
     let n = rt.arg(place, &mut word).unwrap_or(0);
-    &word[..n] == name
+    is_same(&word[..n], name)
 }
 
 // Is there a word at a place?

@@ -1,21 +1,24 @@
 // Calls as they are typed: `reset`, `look S0 S1 ..`, `write AA B0 B1 ..`, `read AA COUNT`.
-ghost use Rattle.std.specs.Prelude.{◌≤◌, length, IfSome};
+ghost use Rattle.std.specs.Prelude.{◌≡◌, ◌≤◌, length, true, IfSome};
+ghost use Rattle.text.specs.Line.{same};
+ghost use Rattle.console.specs.Names.{call_name};
 
 use crate::commands::{list_of, no_more, pair_of, too_few};
 use answers::refusal::{Kind, Wrong};
 use carry::call;
 use carry::call::Call;
 use text::list::copied;
+use text::word::is_same;
 
 // The kind of the call that a word names.
 pub(crate) fn kind_of(word: &[u8]) -> Option<call::Kind>
-    ensures { IfSome result (λ _. 4 ≤ length word.now) }
+    ensures { IfSome result (λ kind. (same word.now (call_name kind) ≡ true) × (4 ≤ length word.now)) }
 {
     match word {
-        b"look" => Some(call::Kind::Look),
-        b"write" => Some(call::Kind::Write),
-        b"read" => Some(call::Kind::Read),
-        b"reset" => Some(call::Kind::Reset),
+        _ if is_same(word, b"look") => Some(call::Kind::Look),
+        _ if is_same(word, b"write") => Some(call::Kind::Write),
+        _ if is_same(word, b"read") => Some(call::Kind::Read),
+        _ if is_same(word, b"reset") => Some(call::Kind::Reset),
         _ => None,
     }
 }

@@ -23,6 +23,7 @@ pub mod RefutedBlocks
 pub mod Sessions
 pub mod Determined
 pub mod Source
+pub mod Lent
 pub mod Total
 pub mod Opened
 pub mod Retired

@@ -1,5 +1,6 @@
 -- OURS IS THE SOURCE: what the contract of each of these seven functions in crates/calls/src/lib.rt allows is what the machine `ours` does, of `looks`
 -- there what the blocks of `wide` are, and of `drive` what `pinned` answers; and of the functions in crates/carry/src/, what the carrier `ours` does.
+-- Lent.antt says it of the calls over a module that is lent, of which these are thin forms.
 --
 --    reset_source, look_source, write_source, read_source, held_source, interrupt_source, pins_source
 --    looks_source, drive_source

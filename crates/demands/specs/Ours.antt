@@ -7,13 +7,21 @@
 --    wide                           ours, with our blocks
 --    driving d                      what that question of crates/calls gives back, as a machine's gives it
 --    pinned                         ours, with that question
-use Rattle.std.specs.Prelude.{ℕ, false, List, [], length}
+--    as_done r after, as_answered r m, as_block r after, as_driven r m
+--                                   what a call of crates/calls that is lent the module tells and leaves, as the call by value gives it
+use Rattle.std.specs.Prelude.{ℕ, Bool, false, List, [], length, Result}
+use Rattle.std.specs.Result.{result_unwrap_or}
+use Rattle.numbers.specs.declared.Refusal.{Refusal}
+use Rattle.numbers.specs.Refusals.{told}
 use Rattle.state.specs.declared.Module.{Module}
 use Rattle.state.specs.Module.{fresh}
 use Rattle.calls.specs.declared.Done.{Done}
 use Rattle.calls.specs.declared.Answered.{Answered}
 use Rattle.calls.specs.declared.Block.{Block as Looked}
 use Rattle.calls.specs.declared.Driven.{Driven as Told}
+use Rattle.calls.specs.declared.lent.Made.{Made}
+use Rattle.calls.specs.declared.lent.Levels.{Levels}
+use Rattle.calls.specs.Lent.{undriven}
 use Rattle.calls.specs.Calls.{reset_call, look_call, write_call, read_call, read_buffer, held_call, interrupt_call, pins_call, drive_call}
 use Rattle.calls.specs.Blocks.{looks_call}
 use Rattle.demands.specs.Machine.{Call, reset, look, write, read, held, interrupt, pins, Gives, Machine}
@@ -49,3 +57,15 @@ driving d = record { number = d.number; next = d.after; driven = d.driven; level
 
 abbrev pub pinned : Pinned
 pinned = record { calls = ours; drives = λ m. driving (drive_call m) }
+
+abbrev pub as_done : Result Unit Refusal → Module → Done
+as_done r after = record { after = after; number = told r }
+
+abbrev pub as_answered : Result Bool Refusal → Module → Answered
+as_answered r m = record { after = m; number = told r; yes = result_unwrap_or r false }
+
+abbrev pub as_block : Made → Module → Looked
+as_block r after = record { after = after; done = r.done; number = told r.outcome }
+
+abbrev pub as_driven : Result Levels Refusal → Module → Told
+as_driven r m = record { after = m; number = told r; driven = (result_unwrap_or r undriven).driven; level = (result_unwrap_or r undriven).level }

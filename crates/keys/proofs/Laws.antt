@@ -1,8 +1,8 @@
 -- Laws of keys.
 --
---    key_yes, no_col                there is such a key, or there is none
+--    key_yes, no_row, no_col        there is such a key, or there is none
 --    key_row, key_col               row and column of a key are in range
---    press_low                      a press code is at most 0x7F
+--    press_no, press_yes            the code tells whether there is such a key; press_low: it is at most 0x7F
 --    row_yes, col_yes               row and column of a key number; row-no, col-no: of no key
 --    row_low, col_low               they are in range; key-low: and so is the number of a key
 --    place_row, place_col           row and column of the key that stands there
@@ -37,6 +37,10 @@ module _ (row col : ℕ) where
   unfolding is_key
   key_yes h k = rw (le-leb row 7 h, le-leb col 12 k)
 
+  pub no_row : 7 < row → is_key row col ≡ false
+  unfolding is_key
+  no_row h = rw (lt-leb row 7 h)
+
   pub no_col : 12 < col → is_key row col ≡ false
   unfolding is_key
   no_col h = rw (lt-leb col 12 h) (and-false (leb row 7))
@@ -48,6 +52,27 @@ module _ (row col : ℕ) where
   pub key_col : is_key row col ≡ true → col ≤ 12
   unfolding is_key
   key_col e = leb-true col 12 (and_right (leb row 7) (leb col 12) e)
+
+  -- a press code is never 0x7F, whose low four bits are no column
+  pub press_no : press_code row col ≡ 0x7F → is_key row col ≡ false
+  unfolding press_code
+  press_no e = go (is_key row col) refl
+    where
+      go : (b : Bool) → is_key row col ≡ b → is_key row col ≡ false
+      go false f = f
+      go true f =
+          let r = key_row f in
+          let c = key_col f in
+          let p : 16 * row + col ≡ 0x7F = rw f at e in
+          absurd (omega arith)
+
+  pub press_yes : (press_code row col ≡ 0x7F → ⊥) → is_key row col ≡ true
+  unfolding press_code
+  press_yes h = go (is_key row col) refl
+    where
+      go : (b : Bool) → is_key row col ≡ b → is_key row col ≡ true
+      go true f = f
+      go false f = absurd (h (rw f))
 
   pub press_low : press_code row col ≤ 0x7F
   unfolding press_code

@@ -12,13 +12,15 @@
 --    written_kept, written_clears       a byte written to a register that has a place, and to one that has none
 --    bank_at, paired_at, drain_at       a pin's bit by places and by addresses
 --    data_at, mask_at, ..; banks        the same for each bank; all of these
---    drives_used               a pin that the keypad uses isn't driven
---    clears_elsewhere          a byte for another GPIOIC register
+--    drives_used, drives_input, drives_masked, drives_whole, drives_drain    a pin that is driven, test by test
+--    shows_used, shows_masked, shows_output, shows_input                     a read of GPIODATA, the same
+--    edge_steady, edge_used, edge_output, edge_level, edge_both, edge_one    an edge, the same
+--    clears_elsewhere, clears_here      a byte for another GPIOIC register, and for the pin's own
 --    turned_next               a list of flags that is replaced from the front, one of them turned or left as it was
 --    sample_next, clear_next   one pin more is sampled, one pin more is cleared
 --    word_none, word_next, word_below   a word that is put together from the top
 --    some_any                  `any` finds whether some pin has a flag
---    reads_data, reads_raw, reads_masked, reads_kept    a read, by the address
+--    reads_data, reads_raw, reads_masked, reads_kept    a read, by the address; data_within: which addresses GPIODATA has
 --    word_same, byte_same, some_same    where flags agree at every pin
 --    bank_same, paired_same, drain_same, drives_same, high_same, edge_same, shows_same, masked_same, raised_same, reads_same
 --                              where also bytes agree, at every register that has a place
@@ -29,7 +31,7 @@ use native.Mathlib.Decide.{dec_lt}
 use native.Mathlib.Numerals.{add-one}
 use native.Mathlib.Omega.{arith}
 use mathlib.Core.Path.{◌≡◌, refl, sym, ap, ◌∙◌}
-use mathlib.Core.Bool.{Bool, true, false, not, ◌&&◌, ◌||◌, and-false, or-true, or-false, not-not, or_assoc}
+use mathlib.Core.Bool.{Bool, true, false, not, ◌&&◌, ◌||◌, beq, and-false, or-true, or-false, not-not, or_assoc}
 use mathlib.Core.List.{List}
 use mathlib.Core.Logic.{◌⊎◌, inl, inr}
 use lib.Dec.{leb, ltb, eqb}
@@ -202,15 +204,15 @@ module _ (k : List ℕ) where
   by_place c n a e h = rw (kept_at k a (omega arith), e)
 
   module _ (n i : ℕ) (h : i < 19) where
-    bank_at : 6 ≤ n → n ≤ 24 → bit (i % 8) (get_or k (n + i / 8) 0) ≡ bank (kept_in k) (n + 0xBA) i
+    pub bank_at : 6 ≤ n → n ≤ 24 → bit (i % 8) (get_or k (n + i / 8) 0) ≡ bank (kept_in k) (n + 0xBA) i
     unfolding bank
     bank_at l m = by_place (i % 8) (n + i / 8) (n + 0xBA + i / 8) (place_settings (n + 0xBA + i / 8) (omega arith) (omega arith) ∙ omega arith) (omega arith)
 
-    paired_at : 6 ≤ n → n ≤ 22 → bit (i % 8) (get_or k (n + 2 * (i / 8)) 0) ≡ paired (kept_in k) (n + 0xBA) i
+    pub paired_at : 6 ≤ n → n ≤ 22 → bit (i % 8) (get_or k (n + 2 * (i / 8)) 0) ≡ paired (kept_in k) (n + 0xBA) i
     unfolding paired
     paired_at l m = by_place (i % 8) (n + 2 * (i / 8)) (n + 0xBA + 2 * (i / 8)) (place_settings (n + 0xBA + 2 * (i / 8)) (omega arith) (omega arith) ∙ omega arith) (omega arith)
 
-    drain_at : 27 ≤ n → n ≤ 28 → bit (i % 8) (get_or k (n + 2 * (i / 8)) 0) ≡ paired (kept_in k) (n + 0xC5) i
+    pub drain_at : 27 ≤ n → n ≤ 28 → bit (i % 8) (get_or k (n + 2 * (i / 8)) 0) ≡ paired (kept_in k) (n + 0xC5) i
     unfolding paired
     drain_at l m = by_place (i % 8) (n + 2 * (i / 8)) (n + 0xC5 + 2 * (i / 8)) (place_drains (n + 0xC5 + 2 * (i / 8)) (omega arith) (omega arith) ∙ omega arith) (omega arith)
 
@@ -245,16 +247,82 @@ module _ (k : List ℕ) (i : ℕ) (h : i < 19) where
 
 pub ruleset banks = (data_at, mask_at, dir_at, is_at, ibe_at, iev_at, ie_at, ome_at, oms_at)
 
--- ---- what a pin does
+-- ---- what a pin does, test by test
 module _ (K : ℕ → ℕ) (size i : ℕ) where
   pub drives_used : used size i ≡ true → drives K size i ≡ false
   unfolding drives
   drives_used e = rw e
 
+  module _ (e : used size i ≡ false) where
+    pub drives_input : DIR K i ≡ false → drives K size i ≡ false
+    unfolding drives
+    drives_input f = rw (e, f)
+
+    pub drives_masked : DIR K i ≡ true → MASK K i ≡ false → drives K size i ≡ false
+    unfolding drives
+    drives_masked f g = rw (e, f, g)
+
+    pub drives_whole : DIR K i ≡ true → MASK K i ≡ true → OME K i ≡ false → drives K size i ≡ true
+    unfolding drives
+    drives_whole f g o = rw (e, f, g, o)
+
+    pub drives_drain : DIR K i ≡ true → MASK K i ≡ true → OME K i ≡ true → drives K size i ≡ beq (OMS K i) (DATA K i)
+    unfolding drives
+    drives_drain f g o = rw (e, f, g, o)
+
+  module _ (L : ℕ → Bool) where
+    pub shows_used : used size i ≡ true → shows K size L i ≡ false
+    unfolding shows
+    shows_used e = rw e
+
+    module _ (e : used size i ≡ false) where
+      pub shows_masked : MASK K i ≡ false → shows K size L i ≡ false
+      unfolding shows
+      shows_masked f = rw (e, f)
+
+      pub shows_output : MASK K i ≡ true → DIR K i ≡ true → shows K size L i ≡ DATA K i
+      unfolding shows
+      shows_output f g = rw (e, f, g)
+
+      pub shows_input : MASK K i ≡ true → DIR K i ≡ false → shows K size L i ≡ L i
+      unfolding shows
+      shows_input f g = rw (e, f, g)
+
+  module _ (old new : Bool) where
+    pub edge_steady : beq old new ≡ true → edge K size i old new ≡ false
+    unfolding edge
+    edge_steady s = rw s
+
+    module _ (s : beq old new ≡ false) where
+      pub edge_used : used size i ≡ true → edge K size i old new ≡ false
+      unfolding edge
+      edge_used e = rw (s, e)
+
+      module _ (e : used size i ≡ false) where
+        pub edge_output : DIR K i ≡ true → edge K size i old new ≡ false
+        unfolding edge
+        edge_output f = rw (s, e, f)
+
+        pub edge_level : DIR K i ≡ false → IS K i ≡ true → edge K size i old new ≡ false
+        unfolding edge
+        edge_level f g = rw (s, e, f, g)
+
+        pub edge_both : DIR K i ≡ false → IS K i ≡ false → IBE K i ≡ true → edge K size i old new ≡ true
+        unfolding edge
+        edge_both f g o = rw (s, e, f, g, o)
+
+        pub edge_one : DIR K i ≡ false → IS K i ≡ false → IBE K i ≡ false → edge K size i old new ≡ beq (IEV K i) new
+        unfolding edge
+        edge_one f g o = rw (s, e, f, g, o)
+
 module _ (a b i : ℕ) where
   pub clears_elsewhere : (a ≡ 0xDC + i / 8 → ⊥) → clears a b i ≡ false
   unfolding clears
   clears_elsewhere n = rw (ne_eqb a (0xDC + i / 8) n)
+
+  pub clears_here : a ≡ 0xDC + i / 8 → clears a b i ≡ bit (i % 8) b
+  unfolding clears
+  clears_here e = rw (eq-eqb a (0xDC + i / 8) e)
 
 -- ---- pin after pin
 pub turned_next : (f : ℕ → Bool) (l : List Bool) (k : ℕ) (v t : Bool) → k < length l → f k ≡ (v if t else get_or l k false)
@@ -328,6 +396,16 @@ module _ (K : ℕ → ℕ) (E L : ℕ → Bool) (size a : ℕ) where
       pub reads_kept : within 0xD9 0xDB a ≡ false → reads K E L size a ≡ K a
       unfolding reads
       reads_kept g = rw (e, f, g)
+
+pub data_within : (a : ℕ) → is_data a ≡ true → (0xC0 ≤ a) × (a ≤ 0xC4)
+unfolding is_data
+data_within a e = go (eqb a 0xC0) (eqb a 0xC2) (eqb a 0xC4) refl refl refl
+  where
+    go : (x y z : Bool) → eqb a 0xC0 ≡ x → eqb a 0xC2 ≡ y → eqb a 0xC4 ≡ z → (0xC0 ≤ a) × (a ≤ 0xC4)
+    go true y z f g h = let q = eqb-true a 0xC0 f in (omega arith, omega arith)
+    go false true z f g h = let q = eqb-true a 0xC2 g in (omega arith, omega arith)
+    go false false true f g h = let q = eqb-true a 0xC4 h in (omega arith, omega arith)
+    go false false false f g h = true_false (sym (rw (f, g, h) at e))
 
 -- ---- bytes that agree at every register that has a place, and flags that agree at every pin
 pub word_same : (f g : ℕ → Bool) → ((i : ℕ) → i < 19 → f i ≡ g i) → word f ≡ word g

@@ -9,7 +9,7 @@
 --    pin_known, pin_known_write  a register of the pins that can be read, and one that can be written
 --    next_pin            behind an address of the pins comes the next one
 --    reads_pulls, reads_settings, reads_edges, reads_drains    those of the pins that can be read one after another
---    no_address          above 0xFF there is no register
+--    no_address, small   above 0xFF there is no register; the number of a picture register fits a byte
 -- Assumes nothing.
 use Prim.Native.Nat.{ℕ, zero, suc, ◌+◌, ◌-◌, ◌≤◌, ◌<◌}
 use native.Mathlib.Nat.{not-suc-le-zero}
@@ -18,7 +18,7 @@ use native.Mathlib.Omega.{arith}
 use mathlib.Core.Path.{◌≡◌, refl, sym, ap, ◌∙◌}
 use mathlib.Core.Bool.{Bool, true, false, ◌&&◌, or-true, and-false}
 use lib.Dec.{leb}
-use borrow.Author.Tests.{ne_eqb, lt-leb, le-leb, leb-true, lt-ltb, le-ltb}
+use borrow.Author.Tests.{ne_eqb, lt-leb, leb-true, lt-ltb, le-ltb}
 use Rattle.words.specs.Words.{all, all_below, within}
 use Rattle.words.proofs.Laws.{and_left, and_right, all_no, all_yes, all_below_lem}
 use Rattle.registers.specs.declared.Access.{Access}
@@ -126,3 +126,7 @@ module _ (a : ℕ) (h : 0xFF < a) where
   -- "there is no address 0x100"
   pub no_address : register_at a ≡ Unknown
   no_address = pin_from a (omega arith) ∙ rw (no_read, no_write)
+
+-- which of the picture's four it is fits a byte
+pub small : (a : ℕ) → a < 0x0F → a - 0x0B < 256
+small a h = omega arith

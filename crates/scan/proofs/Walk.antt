@@ -4,7 +4,7 @@
 --    hidden_same          a key that is hidden leaves all as it is
 --    first_low            the first key that is shown is one of the row
 --    row_none, row_next   a row before the first key that is shown, and from one key to the next
---    rows_next            from one row to the next
+--    rows_none, rows_next  before the first row, and from one row to the next
 --    walk_on              two walks, one after the other
 --    done m s k           what a look alters, once the keys below k are done
 --    done_none            before the first key
@@ -116,6 +116,11 @@ module _ (d size x row : ℕ) (p : Parts) where
   row_next m col low e f g =
       rw (add-one col, in_sight col low, sym f)
       (walk_on m (at_row d size x row p col) (at_key d (13 * row + col) _) refl e g)
+
+module _ (d size : ℕ) (s : List ℕ) (p : Parts) where
+  pub rows_none : p ≡ at_rows d size s p 0
+  unfolding at_rows
+  rows_none = refl
 
 module _ (m : Module) (s : List ℕ) (p : Parts) where
   -- the walk alters neither the bounce nor the size

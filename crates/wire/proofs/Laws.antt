@@ -5,6 +5,7 @@
 --    longest_none, none_longest       it has no byte exactly if the first can't be read
 --    longest_begin, readable_some, readable_none, readable_end    its walk: the beginning, an address that can be read, one that can't, and the end
 --    least_left, least_right          the smaller of two numbers; least-most: it is no greater than either
+--    shared_begin, shared_more, shared_differ, shared_stop    the walk of two lists: the beginning, an item that they share, one that differs, and the end
 --    shared_at, shared_found          what two lists share, by the first place at which they differ
 --    shared_all, shared_most          a list shares all with itself, and no more than it has
 --    shared_take                      what two lists share are the first items of both
@@ -18,8 +19,8 @@
 --    agreed_all                       all are given if nothing came between
 --    blank                            the room for a transfer's bytes, with none in it
 --    filled_length, filled_take, filled_at    the room with bytes at its front: its length, its front, and a byte of that
---    put_filled                       the bytes of a read, put into the room
---    run_blank, run_part              the reads that are asked for
+--    put_filled, put_fits             the bytes of a read, put into the room
+--    run_blank, run_all, run_part, part_fits    the reads that are asked for, and that what was sent lies in the room
 --    agreed_is                        the bytes are compared with those of a read of as many
 --    Begins b n v                     what is told and left is what b gives
 --    read_declined, read_none, read_begun    a read that begins: declined as an access, or at the address, and with all made ahead; run_ahead: that these can be read
@@ -27,9 +28,11 @@
 --    told_kept                        what a byte that comes gives, told apart
 --    byte_names, byte_refused, byte_nowhere, byte_over, byte_kept    a byte that comes: the address, that of a declined write, one that nothing waits for, one too many, and one to be written
 --    has_facts                        what it is that a byte is there; given_byte, given_none: what is handed over then, and else
---    silent_past, byte_given          a byte that is asked for in a read: past the last, and one that is there
+--    silent_else, silent_past, silent_full, byte_given    a byte that is asked for: in no read, past the last, past the room, and one that is there
 --    least_min                        the smaller of two numbers, by its other name
---    write_counted, none_counted, read_counted    a transfer that stops: a write, none, and a read
+--    write_counted, none_counted, read_counted    how many bytes there were of a transfer that stops: a write, none, and a read
+--    write_ended, none_ended, read_ended    a transfer that stops, the same three
+--    open_dropped                     one that is dropped
 -- Assumes nothing.
 use Prim.Native.Nat.{ℕ, zero, suc, ◌+◌, ◌-◌, ◌≤◌, ◌<◌, min}
 use native.Mathlib.Omega.{arith}
@@ -38,12 +41,13 @@ use mathlib.Core.Path.{◌≡◌, refl, sym, ap, subst, ◌∙◌}
 use mathlib.Core.Bool.{Bool, true, false, cond, not, ◌&&◌, and-eq-true_iff}
 use mathlib.Core.List.{List, [], ◌∷◌, ◌++◌}
 use lib.Dec.{leb, ltb, eqb}
-use lib.ListN.{length, take, drop, get_or, replicate, length-take, length-append, length-replicate, get_or-append}
-use lib.Seq.{take_all, take-append-le}
+use lib.ListN.{length, take, drop, get_or, replicate, length-take, length-append, length-replicate, drop_of_length-le, get_or-append}
+use lib.Seq.{drop-cons, take_all, take-append-le}
 use Rattle.std.specs.Prelude.{Option, Some, None}
 use Rattle.std.specs.Option.{unwrap_or}
 use Rattle.std.specs.List.{position_or_len, zip}
 use Rattle.std.proofs.lemmas.Slice.Zip.{length-zip}
+use borrow.Rule.Slice.PartMut.{put_mid}
 use borrow.Author.Tests.{lt-ltb, le-ltb, le-leb, eq-eqb, ne_eqb, eqb-true, eqb-false, ltb-true, ltb-false, leb-true, leb-false, not-false}
 use Rattle.words.proofs.Laws.{true_false}
 use Rattle.words.proofs.Lists.{by_test}
@@ -67,7 +71,7 @@ use Rattle.access.proofs.Laws.{bytes_first}
 use Rattle.calls.specs.Calls.{access_number, read_number, accessed, read_call}
 use Rattle.calls.proofs.Laws.{unsound_access, asleep_first, awake_then, access_err}
 use Rattle.wire.specs.declared.Wire.{Wire}
-use Rattle.wire.specs.Wire.{Begun, Kept, Handed, readable, longest, least, shared, agreed, filled, names, reads, refuses, opened, ahead, begin_read, begin_write, named, one_more, kept, take_byte, one_given, has_more, next_byte, sent, counted}
+use Rattle.wire.specs.Wire.{Begun, Kept, Handed, Ended, readable, longest, least, shared, agreed, filled, idle, names, reads, refuses, opened, ahead, begin_read, begin_write, named, one_more, kept, take_byte, one_given, has_more, next_byte, sent, counted, stop, drop_open}
 
 sub_zero : (n : ℕ) → n - 0 ≡ n
 sub_zero n = omega arith
@@ -192,6 +196,35 @@ module _ (a b : ℕ) where
       (λ _ e. let l = leb-true a b e in (omega arith, omega arith)) (λ _ e. let l = leb-false a b e in (omega arith, omega arith)) refl
 
 -- ---- what two lists share
+module _ (k l : List ℕ) (n : ℕ) where
+  shared_end : length k ≤ n → shared (drop n k) (drop n l) ≡ 0
+  unfolding shared
+  shared_end h = rw (drop_of_length-le k h) refl
+
+  module _ (h : n < length k) (g : n < length l) where
+    shared_no : (get_or k n 0 ≡ get_or l n 0 → ⊥) → shared (drop n k) (drop n l) ≡ 0
+    unfolding shared
+    shared_no d = rw (drop-cons k n 0 h, drop-cons l n 0 g, ne_eqb (get_or k n 0) (get_or l n 0) d) refl
+
+    shared_yes : get_or k n 0 ≡ get_or l n 0 → shared (drop n k) (drop n l) ≡ shared (drop (n + 1) k) (drop (n + 1) l) + 1
+    unfolding shared
+    shared_yes d = rw (drop-cons k n 0 h, drop-cons l n 0 g, eq-eqb (get_or k n 0) (get_or l n 0) d, add-one n) refl
+
+-- the walk of two lists: n items are shared
+pub shared_begin : (k l : List ℕ) → shared k l ≡ 0 + shared (drop 0 k) (drop 0 l)
+shared_begin k l = omega arith
+
+module _ (k l : List ℕ) (n : ℕ) (e : shared k l ≡ n + shared (drop n k) (drop n l)) where
+  pub shared_stop : length k ≤ n → n ≡ shared k l
+  shared_stop h = sym (e ∙ ap (λ (j : ℕ). n + j) (shared_end k l n h) ∙ omega arith)
+
+  module _ (h : n < length k) (g : n < length l) where
+    pub shared_differ : (get_or k n 0 ≡ get_or l n 0 → ⊥) → n ≡ shared k l
+    shared_differ d = sym (e ∙ ap (λ (j : ℕ). n + j) (shared_no k l n h g d) ∙ omega arith)
+
+    pub shared_more : get_or k n 0 ≡ get_or l n 0 → shared k l ≡ (n + 1) + shared (drop (n + 1) k) (drop (n + 1) l)
+    shared_more d = e ∙ ap (λ (j : ℕ). n + j) (shared_yes k l n h g d) ∙ omega arith
+
 abbrev differ : ℕ × ℕ → Bool
 differ p = not (eqb p.0 p.1)
 
@@ -387,8 +420,21 @@ module _ (m : Module) (a n : ℕ) (l : List ℕ) (h : n ≤ 33) (e : l ≡ bytes
       ∙ ap (λ (r : List ℕ). l ++ r) (drop_replicate 33 (length l))
       ∙ ap (λ (r : List ℕ). r ++ replicate (33 - length r) 0) put_bytes
 
+module _ (m : Module) (a n : ℕ) (l : List ℕ) (h : n ≤ 33) (e : l ≡ bytes_read m a (length (take (n - 0) blank))) where
+  pub put_fits : n ≤ length (put_mid 0 (n - 0) blank l)
+  put_fits =
+      let b = bytes_length m a n in
+      let same : l ≡ bytes_read m a (length (take n blank)) = e ∙ ap (λ (k : ℕ). bytes_read m a (length (take k blank))) (sub_zero n) in
+      let put : put_mid 0 (n - 0) blank l ≡ filled (bytes_read m a n) = ap (λ (k : ℕ). l ++ drop k blank) (sub_zero n) ∙ put_filled m a n l h same in
+      subst (λ (k : ℕ). n ≤ k) (sym (ap length put ∙ filled_length (bytes_read m a n) (omega arith))) h
+
 pub run_blank : (a n : ℕ) → n ≤ 33 → run_allowed Read a n ≡ true → run_allowed Read a (length (take n blank)) ≡ true
 run_blank a n h e = ap (run_allowed Read a) (blank_length n h) ∙ e
+
+pub run_all : (a n : ℕ) → n ≡ longest a → run_allowed Read a (length (take (n - 0) blank)) ≡ true
+run_all a n e =
+    let most = longest_most a in
+    ap (λ (k : ℕ). run_allowed Read a (length (take k blank))) (sub_zero n) ∙ run_blank a n (omega arith) (ap (run_allowed Read a) e ∙ longest_run a)
 
 -- those that were sent, n of the h that were handed over
 pub run_part : (a k h n : ℕ) (l : List ℕ) → k ≡ longest a → h ≤ k → n ≤ h → (length (take n l) ≤ 32) × (run_allowed Read a (length (take n l)) ≡ true)
@@ -396,6 +442,9 @@ run_part a k h n l e g f =
     let most = longest_most a in
     let few : length (take n l) ≤ n = subst (λ (j : ℕ). j ≤ n) (sym (length-take n l)) (omega arith) in
     (omega arith, run_within a (length (take n l)) (omega arith))
+
+pub part_fits : (k h n : ℕ) (l : List ℕ) → k ≤ 32 → h ≤ k → n ≤ h → length l ≡ 33 → n ≤ length l
+part_fits k h n l e g f long = omega arith
 
 pub agreed_is : (m : Module) (a : ℕ) (k l : List ℕ) (r : ℕ) → length k ≤ 33 → l ≡ bytes_read m a (length (take (length k) blank))
     → r ≡ shared k (take (length k) (l ++ drop (length k) blank)) → r ≡ agreed m a k
@@ -494,6 +543,10 @@ module _ (w : Wire) where
   abbrev silent : Handed
   silent = record { wire = w; byte = 0xFF }
 
+  pub silent_else : (w.doing ≡ 3 → ⊥) → silent ≡ next_byte w
+  unfolding next_byte has_more
+  silent_else e = rw (ne_eqb w.doing 3 e) refl
+
   -- what it is that a byte is there
   pub has_facts : has_more w ≡ true → (w.doing ≡ 3) × (w.given < w.count) × (w.given < 33)
   unfolding has_more
@@ -514,6 +567,10 @@ module _ (w : Wire) where
     pub silent_past : w.count ≤ w.given → silent ≡ next_byte w
     unfolding next_byte has_more
     silent_past h = rw (eq-eqb w.doing 3 e, le-ltb w.given w.count h) refl
+
+    pub silent_full : w.given < w.count → 33 ≤ w.given → silent ≡ next_byte w
+    unfolding next_byte has_more
+    silent_full h g = rw (eq-eqb w.doing 3 e, lt-ltb w.given w.count h, le-ltb w.given 33 g) refl
 
     pub byte_given : w.given < w.count → w.given < 33 → ◌≡◌ {A = Handed} (record { wire = one_given w; byte = get_or w.bytes w.given 0 }) (next_byte w)
     unfolding next_byte has_more
@@ -545,3 +602,35 @@ module _ (m : Module) (w : Wire) (n : ℕ) where
       let handed : h ≡ least w.given (longest w.first) = eh ∙ ap (min w.given) (eg ∙ ap longest ea) ∙ least_min w.given (longest w.first) in
       let many : j ≡ least n (least w.given (longest w.first)) = ej ∙ ap (min n) handed ∙ least_min n (least w.given (longest w.first)) in
       (ek ∙ (λ i. agreed m (ea i) (take (many i) w.bytes)) ∙ rw (ne_eqb w.doing 2 (λ z. omega arith), eq-eqb w.doing 3 e) refl, omega arith)
+
+module _ (m : Module) (w v : Wire) (n : ℕ) (ev : v ≡ idle w) where
+  ended : (k : ℕ) → k ≡ counted m w n → ◌≡◌ {A = Ended} (record { wire = v; count = k }) (stop m w n)
+  unfolding stop
+  ended k e i = record { wire = ev i; count = e i }
+
+  pub write_ended : (k : ℕ) → w.doing ≡ 2 → k ≡ least w.count 33 → ◌≡◌ {A = Ended} (record { wire = v; count = k }) (stop m w n)
+  unfolding counted
+  write_ended k e f = ended k (f ∙ go)
+    where
+      go : least w.count 33 ≡ counted m w n
+      go = rw (eq-eqb w.doing 2 e) refl
+
+  module _ (d : w.doing ≡ 2 → ⊥) where
+    pub none_ended : (w.doing ≡ 3 → ⊥) → ◌≡◌ {A = Ended} (record { wire = v; count = 0 }) (stop m w n)
+    unfolding counted
+    none_ended e = ended 0 go
+      where
+        go : 0 ≡ counted m w n
+        go = rw (ne_eqb w.doing 2 d, ne_eqb w.doing 3 e) refl
+
+    pub read_ended : (g h j k : ℕ) → w.doing ≡ 3 → g ≡ longest w.first → h ≡ least w.given g → j ≡ least n h → k ≡ agreed m w.first (take (j - 0) w.bytes)
+        → ◌≡◌ {A = Ended} (record { wire = v; count = k }) (stop m w n)
+    unfolding counted sent
+    read_ended g h j k e eg eh ej ek = ended k (ek ∙ ap (λ (i : ℕ). agreed m w.first (take i w.bytes)) (sub_zero j ∙ ej ∙ ap (least n) (eh ∙ ap (least w.given) eg)) ∙ go)
+      where
+        go : agreed m w.first (take (least n (least w.given (longest w.first))) w.bytes) ≡ counted m w n
+        go = rw (ne_eqb w.doing 2 d, eq-eqb w.doing 3 e) refl
+
+pub open_dropped : (w v : Wire) → v ≡ idle w → kept v (not (eqb w.doing 0)) ≡ drop_open w
+unfolding drop_open
+open_dropped w v ev = ap (λ (x : Wire). kept x (not (eqb w.doing 0))) ev

@@ -1,6 +1,6 @@
 -- `draw::codes` meets its contract: each turn writes where the others do.
-use Rattle.std.proofs.Common.{◌≡◌}
+use Rattle.answers.specs.Outputs.{Kept}
 use Rattle.answers.proofs.draw.codes.Given as goal
 
 abbrev pub invariant-loop-code : goal.invariant-loop-code
-invariant-loop-code l = l.out.to ≡ l.initial.out.to
+invariant-loop-code l = Kept l.initial.out l.out

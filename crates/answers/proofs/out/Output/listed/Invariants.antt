@@ -1,6 +1,6 @@
 -- `out::Output::listed` meets its contract: each turn writes where the others do.
-use Rattle.std.proofs.Common.{◌≡◌}
+use Rattle.answers.specs.Outputs.{Kept}
 use Rattle.answers.proofs.out.Output.listed.Given as goal
 
 abbrev pub invariant-loop-part : goal.invariant-loop-part
-invariant-loop-part l = l.self.to ≡ l.initial.self.to
+invariant-loop-part l = Kept l.initial.self l.self
